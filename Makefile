@@ -1,0 +1,13 @@
+# make demo: run the program on a sample page.   make test: prove everything and run all tests.
+PAGE ?= samples/grain.pgm
+
+demo: target/bin/demo
+	target/bin/demo < $(PAGE)
+
+target/bin/demo:
+	rt check demo
+
+test:
+	.ci/run
+
+.PHONY: demo test target/bin/demo
