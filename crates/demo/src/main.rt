@@ -1,0 +1,101 @@
+// One page from standard input, read and shown through a crop and a negative.
+//
+// The work is `stages`, a function on values with a contract; this file reads, picks the kind of tone
+// and prints.
+mod parts;
+mod stages;
+
+use netpbm::ColourPage;
+use netpbm::GreyPage;
+use netpbm::PageFault;
+use netpbm::PageTone;
+use parts::Stages;
+use parts::Stopped;
+use parts::Window;
+use preview::View;
+use source::Fault;
+use stages::stages;
+use std::io;
+use std::io::Read;
+use tone::Colour;
+use tone::ColourTone;
+use tone::Grey;
+use tone::GreyTone;
+
+// The most bytes of input that are looked at.
+const INPUT: u64 = 1 << 24;
+
+// The window that the crop shows.
+const WINDOW: Window = Window {
+    top: 1,
+    left: 2,
+    height: 6,
+    width: 12,
+};
+
+fn print_view(rt: &LibcRuntime, name: &str, view: &View) -> io::Result<()> {
+    let width = view.width;
+    let height = view.height;
+    let picture = view.picture.as_str();
+    println!(rt, "{name}: {width} wide, {height} high")?;
+    print!(rt, "{picture}")
+}
+
+fn print_fault(rt: &LibcRuntime, name: &str, fault: &Fault) -> io::Result<()> {
+    let number = fault.number();
+    let spot = fault.spot();
+    let layer = spot.layer;
+    let row = spot.row;
+    let column = spot.column;
+    println!(
+        rt,
+        "first missing place of the {name}: fault {number}, layer {layer}, row {row}, column {column}"
+    )
+}
+
+fn print_stage(rt: &LibcRuntime, name: &str, view: &View) -> io::Result<()> {
+    print_view(rt, name, view)?;
+    match &view.missing {
+        Some(fault) => print_fault(rt, name, fault),
+        None => Ok(()),
+    }
+}
+
+fn print_stages(rt: &LibcRuntime, kind: &str, stages: &Stages) -> io::Result<()> {
+    println!(rt, "read a {kind} page")?;
+    print_stage(rt, "page", &stages.page)?;
+    let top = WINDOW.top;
+    let left = WINDOW.left;
+    let height = WINDOW.height;
+    let width = WINDOW.width;
+    println!(
+        rt,
+        "cropped to {height} rows and {width} columns at row {top}, column {left}"
+    )?;
+    print_stage(rt, "window", &stages.window)?;
+    println!(rt, "turned to its negative")?;
+    print_stage(rt, "negative", &stages.negative)
+}
+
+fn print_refusal(rt: &LibcRuntime, fault: &PageFault) -> io::Result<()> {
+    let number = fault.number();
+    let byte = fault.byte();
+    println!(rt, "no page: fault {number} at byte {byte}")
+}
+
+fn show<T: PageTone>(rt: &LibcRuntime, kind: &str, page: &[u8]) -> io::Result<()> {
+    match stages::<T>(rt.alloc(), page, &WINDOW) {
+        Ok(done) => print_stages(rt, kind, &done),
+        Err(Stopped::NoPage(fault)) => print_refusal(rt, &fault),
+        Err(Stopped::NoMemory) => println!(rt, "no memory"),
+    }
+}
+
+fn main(rt: LibcRuntime) -> io::Result<()> {
+    let mut input = Vec::new(rt.alloc());
+    rt.stdin().take(INPUT).read_to_end(&mut input)?;
+    match input.as_slice() {
+        [b'P', b'6', ..] => show::<Colour>(&rt, "colour", &input),
+        _ => show::<Grey>(&rt, "grey", &input),
+    }
+}
