@@ -18,7 +18,8 @@ use Rattle.tone.specs.Channels.{channels-of}
 use Rattle.netpbm.specs.Fields.{white, Field}
 use Rattle.netpbm.specs.Headers.{Lettered, SizeField, LastField, MaximumField, Reading, page, header}
 use Rattle.netpbm.specs.Rasters.{raster-place, sample-at}
-use Rattle.page_laws.specs.Plain.{plain-header, Plain-page}
+use Rattle.netpbm.specs.Plain.{plain-header}
+use Rattle.page_laws.specs.Plain.{Plain-page}
 use Rattle.page_laws.proofs.Decimals.{field-at, decimal-255}
 
 module _ (letter w h : ℕ) (samples : List ℕ) (w1 : 1 ≤ w) (w2 : w ≤ 65535) (h1 : 1 ≤ h) (h2 : h ≤ 65535) where
@@ -27,7 +28,7 @@ module _ (letter w h : ℕ) (samples : List ℕ) (w1 : 1 ≤ w) (w2 : w ≤ 6553
 
   -- the bytes before the height, before the maximum, and before the white byte that ends the header
   abbrev to-height : List ℕ
-  to-height = codes "P" ++ (letter ∷ codes "\n") ++ decimal w
+  to-height = (80 ∷ letter ∷ codes "\n") ++ decimal w
 
   abbrev to-maximum : List ℕ
   to-maximum = to-height ++ codes " " ++ decimal h
@@ -36,7 +37,7 @@ module _ (letter w h : ℕ) (samples : List ℕ) (w1 : 1 ≤ w) (w2 : w ≤ 6553
   to-end = to-maximum ++ codes "\n255"
 
   width : Field bs 2 w (2 + 1 + length (decimal w))
-  width = field-at bs (codes "P" ++ (letter ∷ [])) 10 w 32 (decimal h ++ (codes "\n255\n" ++ samples)) (simp append-assoc) refl (omega arith) refl
+  width = field-at bs (80 ∷ letter ∷ []) 10 w 32 (decimal h ++ (codes "\n255\n" ++ samples)) (simp append-assoc) refl (omega arith) refl
 
   height : Field bs (length to-height) h (length to-height + 1 + length (decimal h))
   height = field-at bs to-height 32 h 10 (codes "255\n" ++ samples) (simp append-assoc) refl (omega arith) refl
@@ -48,7 +49,7 @@ module _ (letter w h : ℕ) (samples : List ℕ) (w1 : 1 ≤ w) (w2 : w ≤ 6553
   maximum = field-at bs to-maximum 10 255 10 samples (whole ∙ ap (λ t. to-maximum ++ (10 ∷ (t ++ (10 ∷ samples)))) (sym decimal-255)) refl (omega arith) refl
 
   height-at : length to-height ≡ 2 + 1 + length (decimal w)
-  height-at = length-append (codes "P" ++ (letter ∷ codes "\n")) (decimal w)
+  height-at = length-append (80 ∷ letter ∷ codes "\n") (decimal w)
 
   maximum-at : length to-maximum ≡ length to-height + 1 + length (decimal h)
   maximum-at = simp length-append

@@ -1,0 +1,7 @@
+pub mod Values
+pub mod Inks
+pub mod Nearness
+pub mod LevelRules
+pub mod LevelFacts
+pub mod Levels
+pub mod Lists

@@ -1,0 +1,4 @@
+pub mod Kinds
+pub mod Flats
+pub mod Seeing
+pub mod Outcomes

@@ -1,0 +1,5 @@
+pub mod Limits
+pub mod Meaning
+pub mod Laying
+pub mod Memory
+pub mod Marks

@@ -1,0 +1,4 @@
+pub mod Buffers
+pub mod Refusals
+pub mod Pages
+pub mod Back
