@@ -52,3 +52,15 @@ stage("window", wide, high, below, lambda r, c: (top + r, left + c))
 print("turned to its negative")
 turn = lambda t: None if t is None else tuple(255 - x for x in t)
 stage("negative", wide, high, lambda r, c: turn(below(r, c)), lambda r, c: (top + r, left + c))
+
+# The negative printed with equal levels, 4 for grey and 2 for each channel of colour; a missing place is ink 0, which is
+# black. The page that is written reads back as the tones of the inks.
+steps = 4 if channels == 1 else 2
+levels = [i * 255 // (steps - 1) for i in range(steps)]
+black = (0,) * channels
+level = lambda x: min(levels, key=lambda y: abs(x - y))
+inked = lambda t: black if t is None else tuple(level(x) for x in t)
+print(f"printed with the nearest of {steps ** channels} inks")
+written = f"P{5 if channels == 1 else 6}\n{wide} {high}\n255\n"
+print(f"wrote a page of {len(written) + wide * high * channels} bytes")
+stage("written page", wide, high, lambda r, c: inked(turn(below(r, c))), lambda r, c: (r, c))

@@ -1,20 +1,32 @@
-// One page from standard input, read and shown through a crop and a negative.
+// One page from standard input to a page file: read, cropped, turned to its negative, and printed with the nearest inks.
 //
-// The work is `stages`, a function on values with a contract; this file reads, picks the kind of tone
-// and prints.
+// The work is `stages`, a function on values with a contract; this file reads, picks the kind of tone and its inks,
+// prints what was done, and writes the page to the file that the first argument names, if there is one.
 mod parts;
+mod print;
 mod stages;
 
+use ink::ColourLevels;
+use ink::ColourLevelsInks;
+use ink::GreyLevels;
+use ink::GreyLevelsInks;
+use ink::InkSet;
 use netpbm::ColourPage;
 use netpbm::GreyPage;
 use netpbm::PageFault;
 use netpbm::PageTone;
+use netpbm::ReaderSource;
+use netpbm::read;
 use parts::Stages;
 use parts::Stopped;
+use parts::Unprinted;
 use parts::Window;
 use preview::View;
+use preview::look;
 use source::Fault;
 use stages::stages;
+use std::env;
+use std::fs;
 use std::io;
 use std::io::Read;
 use tone::Colour;
@@ -83,11 +95,46 @@ fn print_refusal(rt: &LibcRuntime, fault: &PageFault) -> io::Result<()> {
     println!(rt, "no page: fault {number} at byte {byte}")
 }
 
-fn show<T: PageTone>(rt: &LibcRuntime, kind: &str, page: &[u8]) -> io::Result<()> {
-    match stages::<T>(rt.alloc(), page, &WINDOW) {
-        Ok(done) => print_stages(rt, kind, &done),
+// Reads the written page again, and shows it.
+fn print_written<T: PageTone>(rt: &LibcRuntime, page: &[u8]) -> io::Result<()> {
+    let length = page.len();
+    println!(rt, "wrote a page of {length} bytes")?;
+    match read::<T>(page) {
+        Ok(reader) => print_stage(rt, "written page", &look(rt.alloc(), &reader)?),
+        Err(fault) => print_refusal(rt, &fault),
+    }
+}
+
+// Writes the page to the file that the first argument names.
+fn save(rt: &LibcRuntime, page: &[u8]) -> io::Result<()> {
+    let mut words = env::args(rt)?;
+    let _program = words.next();
+    match words.next() {
+        Some(path) => fs::write(rt, path.as_str(), page),
+        None => Ok(()),
+    }
+}
+
+fn show<T: PageTone, I: InkSet<T>>(
+    rt: &LibcRuntime,
+    kind: &str,
+    page: &[u8],
+    inks: &I,
+) -> io::Result<()> {
+    match stages::<T, I>(rt.alloc(), page, &WINDOW, inks) {
+        Ok(done) => {
+            print_stages(rt, kind, &done)?;
+            let count = inks.count();
+            println!(rt, "printed with the nearest of {count} inks")?;
+            print_written::<T>(rt, done.printed.as_slice())?;
+            save(rt, done.printed.as_slice())
+        }
         Err(Stopped::NoPage(fault)) => print_refusal(rt, &fault),
-        Err(Stopped::NoMemory) => println!(rt, "no memory"),
+        Err(Stopped::Unprinted(Unprinted::NoSheet)) => println!(rt, "no sheet of that size"),
+        Err(Stopped::Unprinted(Unprinted::NoMemory)) | Err(Stopped::NoMemory) => println!(
+            rt,
+            "no memory"
+        ),
     }
 }
 
@@ -95,7 +142,12 @@ fn main(rt: LibcRuntime) -> io::Result<()> {
     let mut input = Vec::new(rt.alloc());
     rt.stdin().take(INPUT).read_to_end(&mut input)?;
     match input.as_slice() {
-        [b'P', b'6', ..] => show::<Colour>(&rt, "colour", &input),
-        _ => show::<Grey>(&rt, "grey", &input),
+        [b'P', b'6', ..] => show::<Colour, ColourLevels>(
+            &rt,
+            "colour",
+            &input,
+            &ColourLevels::new(2),
+        ),
+        _ => show::<Grey, GreyLevels>(&rt, "grey", &input, &GreyLevels::new(4)),
     }
 }

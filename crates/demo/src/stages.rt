@@ -1,8 +1,11 @@
-// The stages: read, crop, negative.
+// The stages: read, crop, negative, print.
 use crate::parts::Stages;
 use crate::parts::Stopped;
 use crate::parts::StoppedFromAlloc;
+use crate::parts::StoppedFromUnprinted;
 use crate::parts::Window;
+use crate::print::print_page;
+use ink::InkSet;
 use netpbm::PageTone;
 use netpbm::ReaderSource;
 use netpbm::read;
@@ -14,9 +17,14 @@ use source::NegativeSource;
 use std::alloc::Global;
 ghost use Rattle.demo.specs.Staged.{Staged};
 
-// Reads the page, and looks at it, at a window of it, and at the window's negative.
-pub fn stages<T: PageTone>(heap: Global, bytes: &[u8], window: &Window) -> Result<Stages, Stopped>
-    ensures { λ r. ⌜ Staged (T·PageTone .letter) (T·Tone .count) (T·Tone .value) (T·Tone .made) (now (bytes .entry)) (now (window .entry)) r ⌝ }
+// Reads the page, looks at it, at a window of it, and at the window's negative, and prints that with the nearest inks.
+pub fn stages<T: PageTone, I: InkSet<T>>(
+    heap: Global,
+    bytes: &[u8],
+    window: &Window,
+    inks: &I,
+) -> Result<Stages, Stopped>
+    ensures { λ r. ⌜ Staged (T·PageTone .letter) (T·Tone .count) (T·Tone .value) (T·Tone .made) (I·InkSet .meaning (now (inks .entry))) (now (bytes .entry)) (now (window .entry)) r ⌝ }
 {
     let reader = match read::<T>(bytes) {
         Ok(reader) => reader,
@@ -27,16 +35,20 @@ pub fn stages<T: PageTone>(heap: Global, bytes: &[u8], window: &Window) -> Resul
     let shown = look(heap, &cropped)?;
     let negative = Negative::new(cropped, true);
     let turned = look(heap, &negative)?;
+    let printed = print_page(heap, &negative, inks)?;
     Ok(Stages {
         page,
         window: shown,
         negative: turned,
+        printed,
     })
 }
 
 #[cfg(test)]
 mod tests {
     use super::*;
+    use ink::ColourLevels;
+    use ink::ColourLevelsInks;
     use netpbm::ColourPage;
     use source::Fault;
     use source::Spot;
@@ -49,6 +61,9 @@ mod tests {
     const PAGE: &[u8] =
         b"P6\n3 2\n255\n\x00\x00\x00\xff\xff\xff\xff\x00\x00\x00\xff\x00\x00\x00\xff\x0a\x14";
 
+    // The negative's black, cyan and yellow are inks of the set; the missing place is ink 0, black.
+    const PRINTED: &[u8] = b"P6\n2 2\n255\n\x00\x00\x00\x00\xff\xff\xff\xff\x00\x00\x00\x00";
+
     #[test]
     fn colour_page(rt: LibcRuntime) -> Result<(), Fail> {
         let window = Window {
@@ -57,12 +72,18 @@ mod tests {
             height: 2,
             width: 9,
         };
-        let Ok(seen) = stages::<Colour>(rt.alloc(), PAGE, &window) else {
+        let Ok(seen) = stages::<Colour, ColourLevels>(
+            rt.alloc(),
+            PAGE,
+            &window,
+            &ColourLevels::new(2),
+        ) else {
             return Err(Fail::new("no page"));
         };
         check_eq(seen.page.picture.as_str(), "@ *\n**?\n")?;
         check_eq(seen.window.picture.as_str(), " *\n*?\n")?;
         check_eq(seen.negative.picture.as_str(), "@-\n-?\n")?;
+        check_eq(seen.printed.as_slice(), PRINTED)?;
         let spot = Spot {
             layer: 0,
             row: 1,

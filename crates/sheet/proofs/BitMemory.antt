@@ -38,9 +38,9 @@ place-bit-of : (b w r c k : ℕ) (f : ℕ → ℕ → ℕ) → (c < w → f r c 
 place-bit-of b w r c k f inside outside =
     ⊎-elim
     (λ l. ⊎-elim
-      (λ z. omega (arith, inside l) ∙ sym (cond-true (ltb c w && eqb (f r c) 0) 1 0 (and-from _ _ (lt-ltb c w l) (eq-eqb (f r c) 0 z))))
-      (λ n. omega (arith, inside l) ∙ sym (cond-false (ltb c w && eqb (f r c) 0) 1 0 (and-right (ltb c w) _ (ne-eqb (f r c) 0 n))))
-      (cases-eq (f r c) 0))
+    (λ z. omega (arith, inside l) ∙ sym (cond-true (ltb c w && eqb (f r c) 0) 1 0 (and-from _ _ (lt-ltb c w l) (eq-eqb (f r c) 0 z))))
+    (λ n. omega (arith, inside l) ∙ sym (cond-false (ltb c w && eqb (f r c) 0) 1 0 (and-right (ltb c w) _ (ne-eqb (f r c) 0 n))))
+    (cases-eq (f r c) 0))
     (λ m. outside m ∙ sym (cond-false (ltb c w && eqb (f r c) 0) 1 0 (and-left (ltb c w) (eqb (f r c) 0) (le-ltb c w m))))
     (cases-lt c w)
 
@@ -60,9 +60,9 @@ byte-of : (b w r j : ℕ) (f : ℕ → ℕ → ℕ) → b < 256
     → ((k : ℕ) → k < 8 → bit b k ≡ place-bit w f r (8 * j + k)) → b ≡ row-byte w f r j
 byte-of b w r j f small e =
     byte-is b (place-bit w f r (8 * j)) (place-bit w f r (8 * j + 1)) (place-bit w f r (8 * j + 2)) (place-bit w f r (8 * j + 3))
-      (place-bit w f r (8 * j + 4)) (place-bit w f r (8 * j + 5)) (place-bit w f r (8 * j + 6)) (place-bit w f r (8 * j + 7)) small
-      (e 0 (omega arith) ∙ ap (λ c. place-bit w f r c) (add-zero (8 * j))) (e 1 (omega arith)) (e 2 (omega arith)) (e 3 (omega arith))
-      (e 4 (omega arith)) (e 5 (omega arith)) (e 6 (omega arith)) (e 7 (omega arith))
+    (place-bit w f r (8 * j + 4)) (place-bit w f r (8 * j + 5)) (place-bit w f r (8 * j + 6)) (place-bit w f r (8 * j + 7)) small
+    (e 0 (omega arith) ∙ ap (λ c. place-bit w f r c) (add-zero (8 * j))) (e 1 (omega arith)) (e 2 (omega arith)) (e 3 (omega arith))
+    (e 4 (omega arith)) (e 5 (omega arith)) (e 6 (omega arith)) (e 7 (omega arith))
 
 module _ (w r j : ℕ) (f : ℕ → ℕ → ℕ) where
   b0 : place-bit w f r (8 * j) ≤ 1
@@ -92,11 +92,11 @@ pub bit-same : (w h : ℕ) (f g : ℕ → ℕ → ℕ) (past : List ℕ) → ((i
 bit-same w h f g past e =
     ap (λ t. t ++ past)
     (same-made _ _ (stride w * h) (λ k l.
-      byte-of (row-byte w f (k / stride w) (k % stride w)) w (k / stride w) (k % stride w) g
-        (row-byte-small w (k / stride w) (k % stride w) f)
-        (λ t m. row-byte-bit w (k / stride w) (k % stride w) f t m
-          ∙ place-bit-same w (k / stride w) (8 * (k % stride w) + t) f g
-            (λ n. e (k / stride w) (8 * (k % stride w) + t) (row-of k (stride w) h l) n))))
+    byte-of (row-byte w f (k / stride w) (k % stride w)) w (k / stride w) (k % stride w) g
+    (row-byte-small w (k / stride w) (k % stride w) f)
+    (λ t m. row-byte-bit w (k / stride w) (k % stride w) f t m
+    ∙ place-bit-same w (k / stride w) (8 * (k % stride w) + t) f g
+    (λ n. e (k / stride w) (8 * (k % stride w) + t) (row-of k (stride w) h l) n))))
 
 -- the bytes of packed rows, and their bits past the ends of rows
 abbrev pub Bytes : List ℕ → ℕ → ℕ → Type 0
@@ -120,12 +120,12 @@ pub bit-whole : (xs : List ℕ) (w h : ℕ) → stride w * h ≤ length xs → B
 bit-whole xs w h room bytes pads =
     sym (take-append-drop (stride w * h) xs)
     ∙ ap (λ t. t ++ drop (stride w * h) xs)
-      (fill-by-all (λ k. row-byte w (bit-ink xs w) (k / stride w) (k % stride w)) (take (stride w * h) xs) (stride w * h) 0
-        (length-take-le (stride w * h) xs room)
-        (λ k l. getD-take (stride w * h) xs k 0 l
-          ∙ byte-of (getD xs k 0) w (k / stride w) (k % stride w) (bit-ink xs w) (bytes k l)
-            (λ t m. place-bit-of (getD xs k 0) w (k / stride w) (8 * (k % stride w) + t) t (bit-ink xs w)
-              (λ n. ink-of xs w k t m) (λ n. pads k t l m n))))
+    (fill-by-all (λ k. row-byte w (bit-ink xs w) (k / stride w) (k % stride w)) (take (stride w * h) xs) (stride w * h) 0
+    (length-take-le (stride w * h) xs room)
+    (λ k l. getD-take (stride w * h) xs k 0 l
+    ∙ byte-of (getD xs k 0) w (k / stride w) (k % stride w) (bit-ink xs w) (bytes k l)
+    (λ t m. place-bit-of (getD xs k 0) w (k / stride w) (8 * (k % stride w) + t) t (bit-ink xs w)
+    (λ n. ink-of xs w k t m) (λ n. pads k t l m n))))
 
 -- a byte of packed rows
 byte-at : (xs : List ℕ) (w h : ℕ) (f : ℕ → ℕ → ℕ) (past : List ℕ) → xs ≡ bit-memory w h f past
@@ -163,7 +163,7 @@ module _ (xs : List ℕ) (w h : ℕ) (f : ℕ → ℕ → ℕ) (past : List ℕ)
   bit-past-of =
       ap (λ t. drop (stride w * h) t) e
       ∙ drop-at (map (λ k. row-byte w f (k / stride w) (k % stride w)) (counting 0 (stride w * h))) past (stride w * h)
-        (length-map-counting (λ k. row-byte w f (k / stride w) (k % stride w)) 0 (stride w * h))
+      (length-map-counting (λ k. row-byte w f (k / stride w) (k % stride w)) 0 (stride w * h))
 
 -- a new sheet
 module _ (xs : List ℕ) (w h : ℕ) (past : List ℕ) (e : xs ≡ bit-memory w h blank past) where
@@ -183,28 +183,27 @@ number-of n l =
 module _ (xs : List ℕ) (w h r c v number : ℕ) (l : r * stride w + c / 8 < length xs) (q : c < w)
     (here : bit v (c % 8) ≡ cond (eqb number 0) 1 0)
     (others : (k : ℕ) → k < 8 → (k ≡ c % 8 → ⊥) → bit v k ≡ bit (getD xs (r * stride w + c / 8) 0) k) where
-
   pub bit-put : number < 2 → (i j : ℕ) → j < w
       → bit-ink (set xs (r * stride w + c / 8) v) w i j ≡ put (bit-ink xs w) r c number i j
   bit-put small i j p =
       let ys = set xs (r * stride w + c / 8) v in
       ⊎-elim
       (λ e.
-        let row : i ≡ r = same-row i (j / 8) r (c / 8) (stride w) (omega arith) (omega arith) e in
-        let part : j / 8 ≡ c / 8 = same-column i (j / 8) r (c / 8) (stride w) (omega arith) (omega arith) e in
-        let byte : getD ys (i * stride w + j / 8) 0 ≡ v = ap (λ n. getD ys n 0) e ∙ getD-set-same xs (r * stride w + c / 8) v 0 l in
-        ap (λ b. 1 - bit b (j % 8)) byte
-        ∙ ⊎-elim
-          (λ m. ap (λ n. 1 - bit v n) m
-            ∙ (ap (λ n. 1 - n) here
-            ∙ (number-of number small ∙ sym (put-here (bit-ink xs w) r c number i j row (omega arith)))))
-          (λ ne. ap (λ n. 1 - n) (others (j % 8) (omega arith) ne)
-            ∙ (ap (λ n. 1 - bit (getD xs n 0) (j % 8)) (sym e)
-            ∙ sym (put-other (bit-ink xs w) r c number i j (λ s. ne (ap (λ n. n % 8) (s .1))))))
-          (cases-eq (j % 8) (c % 8)))
+      let row : i ≡ r = same-row i (j / 8) r (c / 8) (stride w) (omega arith) (omega arith) e in
+      let part : j / 8 ≡ c / 8 = same-column i (j / 8) r (c / 8) (stride w) (omega arith) (omega arith) e in
+      let byte : getD ys (i * stride w + j / 8) 0 ≡ v = ap (λ n. getD ys n 0) e ∙ getD-set-same xs (r * stride w + c / 8) v 0 l in
+      ap (λ b. 1 - bit b (j % 8)) byte
+      ∙ ⊎-elim
+      (λ m. ap (λ n. 1 - bit v n) m
+      ∙ (ap (λ n. 1 - n) here
+      ∙ (number-of number small ∙ sym (put-here (bit-ink xs w) r c number i j row (omega arith)))))
+      (λ ne. ap (λ n. 1 - n) (others (j % 8) (omega arith) ne)
+      ∙ (ap (λ n. 1 - bit (getD xs n 0) (j % 8)) (sym e)
+      ∙ sym (put-other (bit-ink xs w) r c number i j (λ s. ne (ap (λ n. n % 8) (s .1))))))
+      (cases-eq (j % 8) (c % 8)))
       (λ d. ap (λ b. 1 - bit b (j % 8)) (getD-set-other xs (r * stride w + c / 8) (i * stride w + j / 8) v 0 d)
-        ∙ sym (put-other (bit-ink xs w) r c number i j
-          (λ s. d (ap (λ n. n * stride w + j / 8) (s .0) ∙ ap (λ n. r * stride w + n / 8) (s .1)))))
+      ∙ sym (put-other (bit-ink xs w) r c number i j
+      (λ s. d (ap (λ n. n * stride w + j / 8) (s .0) ∙ ap (λ n. r * stride w + n / 8) (s .1)))))
       (cases-eq (i * stride w + j / 8) (r * stride w + c / 8))
 
   bytes-put : v < 256 → Bytes xs w h → Bytes (set xs (r * stride w + c / 8) v) w h
@@ -217,19 +216,19 @@ module _ (xs : List ℕ) (w h r c v number : ℕ) (l : r * stride w + c / 8 < le
   pads-put p old k t m n past =
       ⊎-elim
       (λ e.
-        let part : k % stride w ≡ c / 8 = ap (λ x. x % stride w) e ∙ mod-mul-add r (stride w) (c / 8) (omega arith) in
-        let ne : t ≡ c % 8 → ⊥ = λ x. omega arith in
-        ap (λ x. bit (getD (set xs (r * stride w + c / 8) v) x 0) t) e
-        ∙ (ap (λ b. bit b t) (getD-set-same xs (r * stride w + c / 8) v 0 l)
-        ∙ (others t n ne
-        ∙ (ap (λ x. bit (getD xs x 0) t) (sym e) ∙ old k t m n past))))
+      let part : k % stride w ≡ c / 8 = ap (λ x. x % stride w) e ∙ mod-mul-add r (stride w) (c / 8) (omega arith) in
+      let ne : t ≡ c % 8 → ⊥ = λ x. omega arith in
+      ap (λ x. bit (getD (set xs (r * stride w + c / 8) v) x 0) t) e
+      ∙ (ap (λ b. bit b t) (getD-set-same xs (r * stride w + c / 8) v 0 l)
+      ∙ (others t n ne
+      ∙ (ap (λ x. bit (getD xs x 0) t) (sym e) ∙ old k t m n past))))
       (λ d. ap (λ b. bit b t) (getD-set-other xs (r * stride w + c / 8) k v 0 d) ∙ old k t m n past)
       (cases-eq k (r * stride w + c / 8))
 
   pub packed-put : r < h → v < 256 → stride w * h ≤ length xs
       → xs ≡ bit-memory w h (bit-ink xs w) (drop (stride w * h) xs)
       → set xs (r * stride w + c / 8) v
-        ≡ bit-memory w h (bit-ink (set xs (r * stride w + c / 8) v) w) (drop (stride w * h) (set xs (r * stride w + c / 8) v))
+      ≡ bit-memory w h (bit-ink (set xs (r * stride w + c / 8) v) w) (drop (stride w * h) (set xs (r * stride w + c / 8) v))
   packed-put p small room e =
       bit-whole (set xs (r * stride w + c / 8) v) w h (rw (length-set xs (r * stride w + c / 8) v) room)
       (bytes-put small (bytes-of xs w h (bit-ink xs w) (drop (stride w * h) xs) e))

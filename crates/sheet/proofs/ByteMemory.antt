@@ -22,10 +22,10 @@ pub byte-put : (xs : List ℕ) (w r c v i j : ℕ) → r * w + c < length xs →
 byte-put xs w r c v i j l q p =
     ⊎-elim
     (λ e. ap (λ n. getD (set xs (r * w + c) v) n 0) e
-      ∙ (getD-set-same xs (r * w + c) v 0 l
-      ∙ sym (put-here (byte-ink xs w) r c v i j (same-row i j r c w p q e) (same-column i j r c w p q e))))
+    ∙ (getD-set-same xs (r * w + c) v 0 l
+    ∙ sym (put-here (byte-ink xs w) r c v i j (same-row i j r c w p q e) (same-column i j r c w p q e))))
     (λ ne. getD-set-other xs (r * w + c) (i * w + j) v 0 ne
-      ∙ sym (put-other (byte-ink xs w) r c v i j (λ e. ne (ap (λ n. n * w + j) (e .0) ∙ ap (λ n. r * w + n) (e .1)))))
+    ∙ sym (put-other (byte-ink xs w) r c v i j (λ e. ne (ap (λ n. n * w + j) (e .0) ∙ ap (λ n. r * w + n) (e .1)))))
     (cases-eq (i * w + j) (r * w + c))
 
 -- the bytes of the memory are the inks and what stands past them
@@ -33,8 +33,8 @@ pub byte-whole : (xs : List ℕ) (w h : ℕ) → w * h ≤ length xs → xs ≡ 
 byte-whole xs w h room =
     sym (take-append-drop (w * h) xs)
     ∙ ap (λ t. t ++ drop (w * h) xs)
-      (fill-by-all (λ k. byte-ink xs w (k / w) (k % w)) (take (w * h) xs) (w * h) 0 (length-take-le (w * h) xs room)
-        (λ k l. getD-take (w * h) xs k 0 l ∙ ap (λ n. getD xs n 0) (sym (div-add-mod' k w))))
+    (fill-by-all (λ k. byte-ink xs w (k / w) (k % w)) (take (w * h) xs) (w * h) 0 (length-take-le (w * h) xs room)
+    (λ k l. getD-take (w * h) xs k 0 l ∙ ap (λ n. getD xs n 0) (sym (div-add-mod' k w))))
 
 -- inks that agree at the places of the sheet make one memory
 pub byte-same : (w h : ℕ) (f g : ℕ → ℕ → ℕ) (past : List ℕ) → ((i j : ℕ) → i < h → j < w → f i j ≡ g i j)

@@ -11,7 +11,6 @@ use Rattle.sheet.specs.Memory.{blank}
 -- a memory by size, inks and what stands past them; the ink that a memory holds; the bytes of a sheet
 module _ (mem : ℕ → ℕ → (ℕ → ℕ → ℕ) → List ℕ → List ℕ) (ink : List ℕ → ℕ → ℕ → ℕ → ℕ) (size : ℕ → ℕ → ℕ)
     (same : (w h : ℕ) (f g : ℕ → ℕ → ℕ) (past : List ℕ) → ((i j : ℕ) → i < h → j < w → f i j ≡ g i j) → mem w h f past ≡ mem w h g past) where
-
   pub ended : (xs ys m : List ℕ) (w h w′ h′ row column : ℕ) → w′ ≡ w → h′ ≡ h
       → ys ≡ mem w′ h′ (ink ys w′) (drop (size w′ h′) ys)
       → drop (size w′ h′) ys ≡ drop (size w h) xs → drop (size w h) xs ≡ drop (size w h) m
@@ -24,8 +23,8 @@ module _ (mem : ℕ → ℕ → (ℕ → ℕ → ℕ) → List ℕ → List ℕ)
       ∙ (ap (λ v. mem v h′ (ink ys w′) (drop (size w h) m)) ew
       ∙ (ap (λ v. mem w v (ink ys w′) (drop (size w h) m)) eh
       ∙ same w h (ink ys w′) (marked blank row column) (drop (size w h) m)
-        (λ i j p q. inks i j p q
-          ∙ ap (λ x. cond (eqb i column && eqb j row) 1 (cond (eqb i row && eqb j column) 1 x)) (new i j p q)))))
+      (λ i j p q. inks i j p q
+      ∙ ap (λ x. cond (eqb i column && eqb j row) 1 (cond (eqb i row && eqb j column) 1 x)) (new i j p q)))))
 
   -- a sheet that could not be made has no bytes
   pub sized : (b : Bool) (w h v u : ℕ) (f : ℕ → ℕ → ℕ) (ys m : List ℕ) → v ≡ cond b w 0 → u ≡ cond b h 0

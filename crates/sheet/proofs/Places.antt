@@ -43,7 +43,7 @@ pub put-other : (f : ℕ → ℕ → ℕ) (r c v i j : ℕ) → ((i ≡ r) × (j
 put-other f r c v i j ne =
     cond-false (eqb i r && eqb j c) v (f i j)
     (⊎-elim (λ p. and-right (eqb i r) (eqb j c) (ne-eqb j c (λ q. ne (p, q))))
-      (λ n. and-left (eqb i r) (eqb j c) (ne-eqb i r n)) (cases-eq i r))
+    (λ n. and-left (eqb i r) (eqb j c) (ne-eqb i r n)) (cases-eq i r))
 
 -- lists made by functions that agree at each index
 pub same-made : (f g : ℕ → ℕ) (n : ℕ) → ((k : ℕ) → k < n → f k ≡ g k) → map f (counting 0 n) ≡ map g (counting 0 n)

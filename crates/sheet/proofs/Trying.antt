@@ -43,18 +43,24 @@ apart m row column i j e p q s =
 pub tried : {S : Type 0} (meaning : S → SheetMeaning) (s t : S) (row column number : ℕ) (r : Result (Unit {0}) SheetFault)
     → numbered r ≡ laying (meaning s) row column number → After meaning s t row column number r
     → Tried (meaning s) (meaning t) row column number
-tried meaning s t row column number (Ok tt) e l = record
-    { width = l .width; height = l .height; limit = l .limit
-    ; inks = λ i j p q. l .inks i j p q ∙ sym (cond-true (ltb number (meaning s .limit)) _ _ (taken (on-sheet (meaning s) row column) (ltb number (meaning s .limit)) e)) }
-tried meaning s t row column number (Err f) e same = record
-    { width = ap (λ x. meaning x .width) same; height = ap (λ x. meaning x .height) same; limit = ap (λ x. meaning x .limit) same
-    ; inks = λ i j p q. ap (λ x. meaning x .ink i j) same
-        ∙ ⊎-elim
-          (λ y. sym (cond-true (ltb number (meaning s .limit)) _ _ y
-            ∙ put-other (meaning s .ink) row column number i j
-              (apart (meaning s) row column i j (off (on-sheet (meaning s) row column) (ltb number (meaning s .limit)) (fault-number f) e y) p q)))
-          (λ n. sym (cond-false (ltb number (meaning s .limit)) _ _ n))
-          (cases-bool (ltb number (meaning s .limit))) }
+tried meaning s t row column number (Ok tt) e l = record {
+  width = l .width;
+  height = l .height;
+  limit = l .limit;
+  inks = λ i j p q. l .inks i j p q ∙ sym (cond-true (ltb number (meaning s .limit)) _ _ (taken (on-sheet (meaning s) row column) (ltb number (meaning s .limit)) e));
+}
+tried meaning s t row column number (Err f) e same = record {
+  width = ap (λ x. meaning x .width) same;
+  height = ap (λ x. meaning x .height) same;
+  limit = ap (λ x. meaning x .limit) same;
+  inks = λ i j p q. ap (λ x. meaning x .ink i j) same
+      ∙ ⊎-elim
+      (λ y. sym (cond-true (ltb number (meaning s .limit)) _ _ y
+      ∙ put-other (meaning s .ink) row column number i j
+      (apart (meaning s) row column i j (off (on-sheet (meaning s) row column) (ltb number (meaning s .limit)) (fault-number f) e y) p q)))
+      (λ n. sym (cond-false (ltb number (meaning s .limit)) _ _ n))
+      (cases-bool (ltb number (meaning s .limit)));
+}
 
 -- two places marked one after the other
 twice : (b : Bool) (x y z : ℕ) (u : Bool) → x ≡ cond b y z → cond b (cond u 1 x) x ≡ cond b (cond u 1 y) z
@@ -62,9 +68,12 @@ twice true x y z u e = ap (λ n. cond u 1 n) e
 twice false x y z u e = e
 
 pub marks : (k m n : SheetMeaning) (row column : ℕ) → Tried k m row column 1 → Tried m n column row 1 → Marked k n row column
-marks k m n row column a b = record
-    { width = b .width ∙ a .width; height = b .height ∙ a .height; limit = b .limit ∙ a .limit
-    ; inks = λ i j p q.
-        b .inks i j (rw (a .height) p) (rw (a .width) q)
-        ∙ (ap (λ x. cond (ltb 1 x) (put (m .ink) column row 1 i j) (m .ink i j)) (a .limit)
-        ∙ twice (ltb 1 (k .limit)) (m .ink i j) (put (k .ink) row column 1 i j) (k .ink i j) (eqb i column && eqb j row) (a .inks i j p q)) }
+marks k m n row column a b = record {
+  width = b .width ∙ a .width;
+  height = b .height ∙ a .height;
+  limit = b .limit ∙ a .limit;
+  inks = λ i j p q.
+      b .inks i j (rw (a .height) p) (rw (a .width) q)
+      ∙ (ap (λ x. cond (ltb 1 x) (put (m .ink) column row 1 i j) (m .ink i j)) (a .limit)
+      ∙ twice (ltb 1 (k .limit)) (m .ink i j) (put (k .ink) row column 1 i j) (k .ink i j) (eqb i column && eqb j row) (a .inks i j p q));
+}

@@ -1,7 +1,6 @@
 -- How the inks of a sheet lie in memory.
 use mathlib.Core.Bool.{cond, _&&_}
 use mathlib.Core.List.{List, map, _++_}
-use mathlib.Core.Path.{_≡_}
 use Prim.Native.Nat.{ℕ, _+_, _-_, _*_, _/_, _%_, _^_, _<_, _≤_}
 use native.Mathlib.Omega.{arith}
 use lib.Dec.{eqb, ltb}
@@ -28,9 +27,17 @@ byte-ink memory width row column = getD memory (row * width + column) 0
 -- what a byte sheet means, by its memory and its size
 abbrev pub byte-meaning : (memory : List ℕ) (width height : ℕ) → width ≤ max-width → height ≤ max-height
     → ((row column : ℕ) → row < height → column < width → byte-ink memory width row column < 256) → SheetMeaning
-byte-meaning memory width height w h below = record
-    { width = width; height = height; limit = 256; ink = byte-ink memory width
-    ; wide = omega arith; high = omega arith; some = omega arith; few = omega arith; below = below }
+byte-meaning memory width height w h below = record {
+  width = width;
+  height = height;
+  limit = 256;
+  ink = byte-ink memory width;
+  wide = omega arith;
+  high = omega arith;
+  some = omega arith;
+  few = omega arith;
+  below = below;
+}
 
 -- Bits: rows as PBM has them, highest bit first, each row filled to a whole byte with zero bits. Ink 0 is bit 1, black.
 
@@ -65,7 +72,14 @@ bit-ink memory width row column = 1 - bit (getD memory (row * stride width + col
 
 -- what a bit sheet means, by its memory and its size
 abbrev pub bit-meaning : (memory : List ℕ) (width height : ℕ) → width ≤ max-width → height ≤ max-height → SheetMeaning
-bit-meaning memory width height w h = record
-    { width = width; height = height; limit = 2; ink = bit-ink memory width
-    ; wide = omega arith; high = omega arith; some = omega arith; few = omega arith
-    ; below = λ row column p q. omega arith }
+bit-meaning memory width height w h = record {
+  width = width;
+  height = height;
+  limit = 2;
+  ink = bit-ink memory width;
+  wide = omega arith;
+  high = omega arith;
+  some = omega arith;
+  few = omega arith;
+  below = λ row column p q. omega arith;
+}

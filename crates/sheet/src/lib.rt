@@ -10,6 +10,7 @@ pub mod sheets;
 
 // the largest page that a job takes; a sheet is made within these limits
 pub const MAX_WIDTH: u16 = 1024;
+
 pub const MAX_HEIGHT: u16 = 8192;
 
 pub use bits::BitSheet;
@@ -20,10 +21,10 @@ pub use fault::SheetFault;
 pub use fault::SheetFaultDebug;
 pub use fault::SheetFaultEq;
 pub use fault::SheetFaultPartialEq;
-pub use sheets::Sheet;
 pub use marks::mark;
 pub use marks::mark_bits;
 pub use marks::mark_bytes;
+pub use sheets::Sheet;
 
 #[cfg(test)]
 mod tests;

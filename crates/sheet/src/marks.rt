@@ -20,7 +20,7 @@ ghost use Rattle.sheet.specs.Memory.{bit-memory, blank, byte-memory, stride};
 pub fn mark<S: Sheet>(sheet: &mut S, row: usize, column: usize)
     ensures inks { λ _. ⌜ Marked (S·Sheet .meaning (now (sheet .entry))) (S·Sheet .meaning (now (sheet .exit))) row column ⌝ }
     ensures keeps { λ _. ⌜ (S·Sheet .lent (now (sheet .exit)) ≡ S·Sheet .lent (now (sheet .entry)))
-      × (S·Sheet .besides (now (sheet .exit)) ≡ S·Sheet .besides (now (sheet .entry))) ⌝ }
+        × (S·Sheet .besides (now (sheet .exit)) ≡ S·Sheet .besides (now (sheet .entry))) ⌝ }
 {
     let _ = sheet.lay(row, column, 1);
     let _ = sheet.lay(column, row, 1);
@@ -29,8 +29,8 @@ pub fn mark<S: Sheet>(sheet: &mut S, row: usize, column: usize)
 // A new byte sheet with the two places marked.
 pub fn mark_bytes(memory: &mut [u8], width: u16, height: u16, row: usize, column: usize)
     ensures { λ _. ⌜ now (memory .exit) ≡ cond (fits width height (width * height) (length (now (memory .entry))))
-      (byte-memory width height (marked blank row column) (drop (width * height) (now (memory .entry))))
-      (now (memory .entry)) ⌝ }
+        (byte-memory width height (marked blank row column) (drop (width * height) (now (memory .entry))))
+        (now (memory .entry)) ⌝ }
 {
     let mut sheet = ByteSheet::new(memory, width, height);
     mark(&mut sheet, row, column);
@@ -39,8 +39,8 @@ pub fn mark_bytes(memory: &mut [u8], width: u16, height: u16, row: usize, column
 // A new bit sheet with the two places marked.
 pub fn mark_bits(memory: &mut [u8], width: u16, height: u16, row: usize, column: usize)
     ensures { λ _. ⌜ now (memory .exit) ≡ cond (fits width height (stride width * height) (length (now (memory .entry))))
-      (bit-memory width height (marked blank row column) (drop (stride width * height) (now (memory .entry))))
-      (now (memory .entry)) ⌝ }
+        (bit-memory width height (marked blank row column) (drop (stride width * height) (now (memory .entry))))
+        (now (memory .entry)) ⌝ }
 {
     let mut sheet = BitSheet::new(memory, width, height);
     mark(&mut sheet, row, column);

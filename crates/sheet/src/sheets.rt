@@ -34,5 +34,5 @@ pub trait Sheet {
         ensures answer { λ r. ⌜ numbered r ≡ laying (meaning (now (self .entry))) row column number ⌝ }
         ensures after { λ r. ⌜ After meaning (now (self .entry)) (now (self .exit)) row column number r ⌝ }
         ensures keeps { λ _. ⌜ (lent (now (self .exit)) ≡ lent (now (self .entry)))
-          × (besides (now (self .exit)) ≡ besides (now (self .entry))) ⌝ };
+            × (besides (now (self .exit)) ≡ besides (now (self .entry))) ⌝ };
 }

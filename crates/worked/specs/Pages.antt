@@ -58,7 +58,7 @@ cases =
     ∷ grey 1 1 Raster atkinson levels (100 ∷ []) (0 ∷ []) (pos 800 ∷ pos 0 ∷ pos 0 ∷ pos 600 ∷ pos 200 ∷ pos 0 ∷ pos 0 ∷ [])
     -- one ink of tone 0, and all of the error passed on: the third value is cut at 510
     ∷ grey 3 1 Raster (shape 1 (tap 0 (pos 1) 1 ∷ [])) (inks-of (greys (0 ∷ []) (omega arith))) (255 ∷ 255 ∷ 255 ∷ []) (0 ∷ 0 ∷ 0 ∷ [])
-        (pos 765 ∷ pos 0 ∷ pos 0 ∷ pos 510 ∷ pos 0 ∷ pos 0 ∷ pos 255 ∷ [])
+    (pos 765 ∷ pos 0 ∷ pos 0 ∷ pos 510 ∷ pos 0 ∷ pos 0 ∷ pos 255 ∷ [])
     -- a row of two, after its first cell and after both
     ∷ grey 2 1 Raster floyd levels (100 ∷ []) (0 ∷ []) (pos 1600 ∷ pos 0 ∷ pos 700 ∷ pos 900 ∷ pos 0 ∷ pos 0 ∷ pos 0 ∷ [])
     ∷ grey 2 1 Raster floyd levels (100 ∷ 100 ∷ []) (0 ∷ 1 ∷ []) (pos 3200 ∷ pos 4080 ∷ pos 0 ∷ less 892 ∷ pos 0 ∷ pos 12 ∷ pos 0 ∷ [])

@@ -4,5 +4,4 @@ ghost use Rattle.worked.specs.Pages.{Worked};
 // Every worked page has the inks and the accounts listed for it, and every ink set the choices listed.
 pub fn pages_come_out()
     ensures { λ _. ⌜ Worked ⌝ }
-{
-}
+{}

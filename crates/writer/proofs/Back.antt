@@ -35,12 +35,12 @@ piece-at f zero k i j each p q = absurd (not-suc-le-zero p)
 piece-at f (suc n) k i j each p q =
     let long : length (pieces f n) ≡ n * k = pieces-long f n k each in
     let step : getD (pieces f (n + 1)) (i * k + j) 0 ≡ getD (f i) j 0 =
-        ap (λ t. getD t (i * k + j) 0) (sym (pieces-step f n))
-        ∙ ⊎-elim
-          (λ e. let at : i * k + j ≡ length (pieces f n) + j = ap (λ x. x * k + j) e ∙ omega (arith, long) in
-            ap (λ x. getD (pieces f n ++ f n) x 0) at ∙ (getD-append-add (pieces f n) (f n) j 0 ∙ ap (λ x. getD (f x) j 0) (sym e)))
-          (λ ne. getD-append-left (pieces f n) (f n) 0 (i * k + j) (omega (arith, long, mul-add-lt i k j n (omega arith) q)) ∙ piece-at f n k i j each (omega arith) q)
-          (cases-eq i n) in
+    ap (λ t. getD t (i * k + j) 0) (sym (pieces-step f n))
+    ∙ ⊎-elim
+    (λ e. let at : i * k + j ≡ length (pieces f n) + j = ap (λ x. x * k + j) e ∙ omega (arith, long) in
+    ap (λ x. getD (pieces f n ++ f n) x 0) at ∙ (getD-append-add (pieces f n) (f n) j 0 ∙ ap (λ x. getD (f x) j 0) (sym e)))
+    (λ ne. getD-append-left (pieces f n) (f n) 0 (i * k + j) (omega (arith, long, mul-add-lt i k j n (omega arith) q)) ∙ piece-at f n k i j each (omega arith) q)
+    (cases-eq i n) in
     subst (λ (x : ℕ). getD (pieces f x) (i * k + j) 0 ≡ getD (f i) j 0) (add-one n) step
 
 channel-at : (n : ℕ) (f : ℕ → ℕ) (i : ℕ) → i < n → n ≤ 3 → getD (channels-of n f) i 0 ≡ f i
@@ -52,7 +52,6 @@ channel-at n f (suc (suc (suc i))) h few = absurd (omega arith)
 module _ {T : Type 0} (letter n : ℕ) (value : T → ℕ → ℕ) (made : List ℕ → T) (m : Inks T) (s : SheetMeaning) (past : List ℕ)
     (some : 1 ≤ n) (few : n ≤ 3) (byte : (t : T) (i : ℕ) → i < n → value t i ≤ 255)
     (gives : (v : List ℕ) (i : ℕ) → i < n → getD v i 0 ≤ 255 → value (made v) i ≡ getD v i 0) where
-
   abbrev laid : ℕ → ℕ → T
   laid r c = ink-tone m (s .ink r c)
 
@@ -122,7 +121,7 @@ back-after letter n value made m s some few byte gives before after (Ok k) w = �
     let page = tone-page n value m s letter in
     ⊎-elim
     (λ fits. subst (λ (bs : List ℕ). Reads-back letter n value made m s bs) (sym (w .buffer ∙ rw fits refl))
-        (reads-back letter n value made m s (drop (length page) before) some few byte gives wide high))
+    (reads-back letter n value made m s (drop (length page) before) some few byte gives wide high))
     (λ short. let bad : Ok k ≡ Err 19 = w .answer ∙ rw short refl in let z : _≡_ {A = ℕ} 0 1 = cc in absurd (omega arith))
     (cases-bool (leb (length page) (length before)))
 

@@ -61,9 +61,10 @@ abbrev pub Put : List ℕ → ℕ → List ℕ → List ℕ → ℕ → Type 0
 Put a at s b i = (i ≡ at + length s) × (b ≡ over a at s)
 
 pub put-more : (a : List ℕ) (at : ℕ) (s b : List ℕ) (i : ℕ) (t c : List ℕ) (j : ℕ) → at ≤ length a → Put a at s b i → Put b i t c j → Put a at (s ++ t) c j
-put-more a at s b i t c j h p q =
-    ( omega (arith, p .0, q .0, length-append s t)
-    , q .1 ∙ (ap (λ x. over x i t) (p .1) ∙ over-over a at s t i (p .0) h))
+put-more a at s b i t c j h p q = (
+  omega (arith, p .0, q .0, length-append s t),
+  q .1 ∙ (ap (λ x. over x i t) (p .1) ∙ over-over a at s t i (p .0) h),
+)
 
 counting-more : (n : ℕ) → counting 0 (n + 1) ≡ counting 0 n ++ n ∷ []
 counting-more n =
@@ -101,7 +102,7 @@ pub pieces-long : (f : ℕ → List ℕ) (n k : ℕ) → ((i : ℕ) → length (
 pieces-long f zero k e = sym (zero-mul k)
 pieces-long f (suc n) k e =
     let more : length (pieces f (n + 1)) ≡ (n + 1) * k =
-        ap length (sym (pieces-step f n)) ∙ (length-append (pieces f n) (f n) ∙ omega (arith, pieces-long f n k e, e n, add-mul n 1 k)) in
+    ap length (sym (pieces-step f n)) ∙ (length-append (pieces f n) (f n) ∙ omega (arith, pieces-long f n k e, e n, add-mul n 1 k)) in
     subst (λ (m : ℕ). length (pieces f m) ≡ m * k) (add-one n) more
 
 -- a piece below the n-th fits where n pieces do

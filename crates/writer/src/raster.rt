@@ -36,7 +36,13 @@ fn put_tone<T: Tone>(buffer: &mut [u8], at: usize, tone: &T) -> usize
 }
 
 // Writes the tones of a row.
-fn put_tone_row<T: Tone, I: InkSet<T>, S: Sheet>(buffer: &mut [u8], at: usize, inks: &I, sheet: &S, row: usize) -> usize
+fn put_tone_row<T: Tone, I: InkSet<T>, S: Sheet>(
+    buffer: &mut [u8],
+    at: usize,
+    inks: &I,
+    sheet: &S,
+    row: usize,
+) -> usize
     requires { ⌜ (at + S·Sheet .meaning (now sheet) .width * T·Tone .count ≤ length (now buffer)) × (row < S·Sheet .meaning (now sheet) .height) ⌝ }
     ensures { λ r. ⌜ (r ≡ at + length (tone-row (T·Tone .count) (T·Tone .value) (I·InkSet .meaning (now (inks .entry))) (S·Sheet .meaning (now (sheet .entry))) row))
         × (now (buffer .exit) ≡ over (now (buffer .entry)) at (tone-row (T·Tone .count) (T·Tone .value) (I·InkSet .meaning (now (inks .entry))) (S·Sheet .meaning (now (sheet .entry))) row)) ⌝ }
@@ -50,7 +56,12 @@ fn put_tone_row<T: Tone, I: InkSet<T>, S: Sheet>(buffer: &mut [u8], at: usize, i
 }
 
 // Writes the tones of all rows.
-pub(crate) fn put_tones<T: Tone, I: InkSet<T>, S: Sheet>(buffer: &mut [u8], at: usize, inks: &I, sheet: &S) -> usize
+pub(crate) fn put_tones<T: Tone, I: InkSet<T>, S: Sheet>(
+    buffer: &mut [u8],
+    at: usize,
+    inks: &I,
+    sheet: &S,
+) -> usize
     requires { ⌜ at + S·Sheet .meaning (now sheet) .height * (S·Sheet .meaning (now sheet) .width * T·Tone .count) ≤ length (now buffer) ⌝ }
     ensures { λ r. ⌜ (r ≡ at + length (tone-raster (T·Tone .count) (T·Tone .value) (I·InkSet .meaning (now (inks .entry))) (S·Sheet .meaning (now (sheet .entry)))))
         × (now (buffer .exit) ≡ over (now (buffer .entry)) at (tone-raster (T·Tone .count) (T·Tone .value) (I·InkSet .meaning (now (inks .entry))) (S·Sheet .meaning (now (sheet .entry))))) ⌝ }
@@ -80,7 +91,11 @@ fn place_bit<T: Tone, I: InkSet<T>, S: Sheet>(inks: &I, sheet: &S, row: usize, c
         return 0;
     }
     let number = ink_at(sheet, row, column);
-    if number == 0 || number >= inks.count() { 1 } else { 0 }
+    if number == 0 || number >= inks.count() {
+        1
+    } else {
+        0
+    }
 }
 
 // Byte j of a packed row, highest bit first.
@@ -100,7 +115,13 @@ fn row_byte<T: Tone, I: InkSet<T>, S: Sheet>(inks: &I, sheet: &S, row: usize, j:
 }
 
 // Writes a packed row.
-fn put_bit_row<T: Tone, I: InkSet<T>, S: Sheet>(buffer: &mut [u8], at: usize, inks: &I, sheet: &S, row: usize) -> usize
+fn put_bit_row<T: Tone, I: InkSet<T>, S: Sheet>(
+    buffer: &mut [u8],
+    at: usize,
+    inks: &I,
+    sheet: &S,
+    row: usize,
+) -> usize
     requires { ⌜ (at + stride (S·Sheet .meaning (now sheet) .width) ≤ length (now buffer)) × (row < S·Sheet .meaning (now sheet) .height) ⌝ }
     ensures { λ r. ⌜ (r ≡ at + length (bit-row (T·Tone .count) (T·Tone .value) (I·InkSet .meaning (now (inks .entry))) (S·Sheet .meaning (now (sheet .entry))) row))
         × (now (buffer .exit) ≡ over (now (buffer .entry)) at (bit-row (T·Tone .count) (T·Tone .value) (I·InkSet .meaning (now (inks .entry))) (S·Sheet .meaning (now (sheet .entry))) row)) ⌝ }
@@ -113,7 +134,12 @@ fn put_bit_row<T: Tone, I: InkSet<T>, S: Sheet>(buffer: &mut [u8], at: usize, in
 }
 
 // Writes all packed rows.
-pub(crate) fn put_bits<T: Tone, I: InkSet<T>, S: Sheet>(buffer: &mut [u8], at: usize, inks: &I, sheet: &S) -> usize
+pub(crate) fn put_bits<T: Tone, I: InkSet<T>, S: Sheet>(
+    buffer: &mut [u8],
+    at: usize,
+    inks: &I,
+    sheet: &S,
+) -> usize
     requires { ⌜ at + S·Sheet .meaning (now sheet) .height * stride (S·Sheet .meaning (now sheet) .width) ≤ length (now buffer) ⌝ }
     ensures { λ r. ⌜ (r ≡ at + length (bit-raster (T·Tone .count) (T·Tone .value) (I·InkSet .meaning (now (inks .entry))) (S·Sheet .meaning (now (sheet .entry)))))
         × (now (buffer .exit) ≡ over (now (buffer .entry)) at (bit-raster (T·Tone .count) (T·Tone .value) (I·InkSet .meaning (now (inks .entry))) (S·Sheet .meaning (now (sheet .entry))))) ⌝ }

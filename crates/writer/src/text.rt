@@ -46,7 +46,13 @@ pub(crate) fn header_length(start: u8, width: u16, height: u16, end: u8) -> usiz
 }
 
 // Writes a header at the start of the buffer.
-pub(crate) fn put_header(buffer: &mut [u8], start: &[u8], width: u16, height: u16, end: &[u8]) -> usize
+pub(crate) fn put_header(
+    buffer: &mut [u8],
+    start: &[u8],
+    width: u16,
+    height: u16,
+    end: &[u8],
+) -> usize
     requires { ⌜ length (framed (now start) width height (now end)) ≤ length (now buffer) ⌝ }
     ensures { λ r. ⌜ (r ≡ length (framed (now (start .entry)) width height (now (end .entry))))
         × (now (buffer .exit) ≡ over (now (buffer .entry)) 0 (framed (now (start .entry)) width height (now (end .entry)))) ⌝ }

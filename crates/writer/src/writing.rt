@@ -25,11 +25,18 @@ const WHITE: u8 = 255;
 fn black_and_white<T: Tone, I: InkSet<T>, S: Sheet>(inks: &I, sheet: &S) -> bool
     ensures { λ r. ⌜ r ≡ black-white (T·Tone .count) (T·Tone .value) (I·InkSet .meaning (now (inks .entry))) (S·Sheet .meaning (now (sheet .entry))) ⌝ }
 {
-    T::channels() == 1 && inks.count() == 2 && inks.tone(0).channel(0) == 0 && inks.tone(1).channel(0) == WHITE
+    T::channels() == 1
+        && inks.count() == 2
+        && inks.tone(0).channel(0) == 0
+        && inks.tone(1).channel(0) == WHITE
 }
 
 // Writes a bitmap, P4.
-fn write_bits<T: Tone, I: InkSet<T>, S: Sheet>(inks: &I, sheet: &S, buffer: &mut [u8]) -> Result<usize, WriteFault>
+fn write_bits<T: Tone, I: InkSet<T>, S: Sheet>(
+    inks: &I,
+    sheet: &S,
+    buffer: &mut [u8],
+) -> Result<usize, WriteFault>
     ensures { λ r. ⌜ Wrote (bitmap (T·Tone .count) (T·Tone .value) (I·InkSet .meaning (now (inks .entry))) (S·Sheet .meaning (now (sheet .entry)))) (now (buffer .entry)) (now (buffer .exit)) (numbered r) ⌝ }
 {
     let width = sheet.width();
@@ -43,7 +50,11 @@ fn write_bits<T: Tone, I: InkSet<T>, S: Sheet>(inks: &I, sheet: &S, buffer: &mut
 }
 
 // Writes a page of tones, P5 or P6.
-fn write_tones<T: PageTone, I: InkSet<T>, S: Sheet>(inks: &I, sheet: &S, buffer: &mut [u8]) -> Result<usize, WriteFault>
+fn write_tones<T: PageTone, I: InkSet<T>, S: Sheet>(
+    inks: &I,
+    sheet: &S,
+    buffer: &mut [u8],
+) -> Result<usize, WriteFault>
     ensures { λ r. ⌜ Wrote (tone-page (T·Tone .count) (T·Tone .value) (I·InkSet .meaning (now (inks .entry))) (S·Sheet .meaning (now (sheet .entry))) (T·PageTone .letter)) (now (buffer .entry)) (now (buffer .exit)) (numbered r) ⌝ }
 {
     let width = sheet.width();
@@ -59,7 +70,11 @@ fn write_tones<T: PageTone, I: InkSet<T>, S: Sheet>(inks: &I, sheet: &S, buffer:
 
 // Writes the page of the sheet's inks, and answers its length. A page of tones that has cells reads back, from the
 // whole buffer, as the tones laid.
-pub fn write<T: PageTone, I: InkSet<T>, S: Sheet>(inks: &I, sheet: &S, buffer: &mut [u8]) -> Result<usize, WriteFault>
+pub fn write<T: PageTone, I: InkSet<T>, S: Sheet>(
+    inks: &I,
+    sheet: &S,
+    buffer: &mut [u8],
+) -> Result<usize, WriteFault>
     ensures page { λ r. ⌜ Wrote (written (T·Tone .count) (T·Tone .value) (I·InkSet .meaning (now (inks .entry))) (S·Sheet .meaning (now (sheet .entry))) (T·PageTone .letter)) (now (buffer .entry)) (now (buffer .exit)) (numbered r) ⌝ }
     ensures back { λ r. ⌜ Back (T·PageTone .letter) (T·Tone .count) (T·Tone .value) (T·Tone .made) (I·InkSet .meaning (now (inks .entry))) (S·Sheet .meaning (now (sheet .entry))) (now (buffer .exit)) (numbered r) ⌝ }
 {

@@ -22,24 +22,32 @@ impl<'a> BitSheet<'a> {
     // Bytes past the sheet keep what they hold.
     pub fn new(memory: &'a mut [u8], width: u16, height: u16) -> BitSheet<'a>
         ensures means { λ r. ⌜ Blank (bit-meaning (now (r .rows)) (r .width) (r .height) (r .wide) (r .high))
-          (cond (fits width height (stride width * height) (length (now (memory .entry)))) width 0)
-          (cond (fits width height (stride width * height) (length (now (memory .entry)))) height 0) 2 ⌝ }
+            (cond (fits width height (stride width * height) (length (now (memory .entry)))) width 0)
+            (cond (fits width height (stride width * height) (length (now (memory .entry)))) height 0) 2 ⌝ }
         ensures memory { λ r. ⌜ now (r .rows) ≡ bit-memory (r .width) (r .height) blank (drop (stride (r .width) * r .height) (now (memory .entry))) ⌝ }
         ensures lent { λ r. ⌜ name (r .rows) ≡ name (memory .entry) ⌝ }
     {
         let n = row_bytes(width) * height as usize;
         if width < 1 || width > MAX_WIDTH || height < 1 || height > MAX_HEIGHT || n > memory.len() {
-            return BitSheet { rows: memory, width: 0, height: 0 };
+            return BitSheet {
+                rows: memory,
+                width: 0,
+                height: 0,
+            };
         }
         blank_rows(memory, width, n);
-        BitSheet { rows: memory, width, height }
+        BitSheet {
+            rows: memory,
+            width,
+            height,
+        }
     }
 
     // The whole memory that was lent: the packed rows, and the bytes past them.
     pub fn memory(&self) -> &[u8]
         ensures { λ r. ⌜ now r ≡ bit-memory (now (self .entry) .width) (now (self .entry) .height)
-          (bit-ink (now (now (self .entry) .rows)) (now (self .entry) .width))
-          (drop (stride (now (self .entry) .width) * now (self .entry) .height) (now (now (self .entry) .rows))) ⌝ }
+            (bit-ink (now (now (self .entry) .rows)) (now (self .entry) .width))
+            (drop (stride (now (self .entry) .width) * now (self .entry) .height) (now (now (self .entry) .rows))) ⌝ }
     {
         &*self.rows
     }
@@ -47,7 +55,9 @@ impl<'a> BitSheet<'a> {
 
 pub impl Sheet for BitSheet<'_> as BitSheetSheet {
     ghost meaning = { λ s. bit-meaning (now (s .rows)) (s .width) (s .height) (s .wide) (s .high) };
+
     ghost lent = { λ s. name (s .rows) ∷ [] };
+
     ghost besides = { λ s. drop (stride (s .width) * s .height) (now (s .rows)) };
 
     fn width(&self) -> u16 {

@@ -8,14 +8,14 @@ ghost use Rattle.std.specs.Iters.{counting};
 ghost use Rattle.sheet.specs.Memory.{bit, bit-memory, blank, row-byte, stride};
 
 // The bytes of a row.
-pub fn row_bytes(width: u16) -> usize
+pub(crate) fn row_bytes(width: u16) -> usize
     ensures { λ r. ⌜ r ≡ stride width ⌝ }
 {
     (width as usize + 7) / 8
 }
 
 // The byte b with bit k, counted from the highest, put to `on`.
-pub fn with_bit(b: u8, k: u8, on: bool) -> u8
+pub(crate) fn with_bit(b: u8, k: u8, on: bool) -> u8
     requires { ⌜ k < 8 ⌝ }
     ensures here { λ r. ⌜ bit r k ≡ cond on 1 0 ⌝ }
     ensures others { λ r. ⌜ ((j : ℕ) → j < 8 → (j ≡ k → ⊥) → bit r j ≡ bit b j) ⌝ }
@@ -42,10 +42,10 @@ fn blank_byte(width: u16, j: usize) -> u8
 }
 
 // Writes rows of ink 0 into the first n bytes.
-pub fn blank_rows(memory: &mut [u8], width: u16, n: usize)
+pub(crate) fn blank_rows(memory: &mut [u8], width: u16, n: usize)
     requires { ⌜ (n ≤ length (now memory)) × (1 ≤ width) ⌝ }
     ensures { λ _. ⌜ now (memory .exit)
-      ≡ map (λ k. row-byte width blank (k / stride width) (k % stride width)) (counting 0 n) ++ drop n (now (memory .entry)) ⌝ }
+        ≡ map (λ k. row-byte width blank (k / stride width) (k % stride width)) (counting 0 n) ++ drop n (now (memory .entry)) ⌝ }
 {
     let stride = row_bytes(width);
     for i in 0..n {

@@ -29,24 +29,32 @@ impl<'a> ByteSheet<'a> {
     // Bytes past the sheet keep what they hold.
     pub fn new(memory: &'a mut [u8], width: u16, height: u16) -> ByteSheet<'a>
         ensures means { λ r. ⌜ Blank (byte-meaning (now (r .cells)) (r .width) (r .height) (r .wide) (r .high) (r .below))
-          (cond (fits width height (width * height) (length (now (memory .entry)))) width 0)
-          (cond (fits width height (width * height) (length (now (memory .entry)))) height 0) 256 ⌝ }
+            (cond (fits width height (width * height) (length (now (memory .entry)))) width 0)
+            (cond (fits width height (width * height) (length (now (memory .entry)))) height 0) 256 ⌝ }
         ensures memory { λ r. ⌜ now (r .cells) ≡ byte-memory (r .width) (r .height) blank (drop (r .width * r .height) (now (memory .entry))) ⌝ }
         ensures lent { λ r. ⌜ name (r .cells) ≡ name (memory .entry) ⌝ }
     {
         let n = width as usize * height as usize;
         if width < 1 || width > MAX_WIDTH || height < 1 || height > MAX_HEIGHT || n > memory.len() {
-            return ByteSheet { cells: memory, width: 0, height: 0 };
+            return ByteSheet {
+                cells: memory,
+                width: 0,
+                height: 0,
+            };
         }
         clear(memory, n);
-        ByteSheet { cells: memory, width, height }
+        ByteSheet {
+            cells: memory,
+            width,
+            height,
+        }
     }
 
     // The whole memory that was lent: the inks row by row, and the bytes past them.
     pub fn memory(&self) -> &[u8]
         ensures { λ r. ⌜ now r ≡ byte-memory (now (self .entry) .width) (now (self .entry) .height)
-          (byte-ink (now (now (self .entry) .cells)) (now (self .entry) .width))
-          (drop (now (self .entry) .width * now (self .entry) .height) (now (now (self .entry) .cells))) ⌝ }
+            (byte-ink (now (now (self .entry) .cells)) (now (self .entry) .width))
+            (drop (now (self .entry) .width * now (self .entry) .height) (now (now (self .entry) .cells))) ⌝ }
     {
         &*self.cells
     }
@@ -54,7 +62,9 @@ impl<'a> ByteSheet<'a> {
 
 pub impl Sheet for ByteSheet<'_> as ByteSheetSheet {
     ghost meaning = { λ s. byte-meaning (now (s .cells)) (s .width) (s .height) (s .wide) (s .high) (s .below) };
+
     ghost lent = { λ s. name (s .cells) ∷ [] };
+
     ghost besides = { λ s. drop (s .width * s .height) (now (s .cells)) };
 
     fn width(&self) -> u16 {

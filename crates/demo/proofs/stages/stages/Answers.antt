@@ -12,3 +12,7 @@ returns-in-Break-shown g c =
 pub returns-in-Break-turned : need.returns-in-Break-turned
 returns-in-Break-turned g c =
     let p = err-from-errBy (c .from-residual-in-Break-turned .result) (c .from-residual-in-Break-turned .ensures .1) in rw (p .1, p .2) tt
+
+pub returns-in-Break-printed : need.returns-in-Break-printed
+returns-in-Break-printed g c =
+    let p = err-from-errBy (c .from-residual-in-Break-printed .result) (c .from-residual-in-Break-printed .ensures .1) in rw (p .1, p .2) tt

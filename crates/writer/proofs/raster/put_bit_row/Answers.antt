@@ -22,6 +22,7 @@ pub returns : need.returns
 returns g c =
     let s = g .S·Sheet .meaning (c .args .sheet .now) in
     let f : ℕ → ℕ = row-byte (s .width) (counted (g .T·Tone .count) (g .T·Tone .value) (g .I·InkSet .meaning (c .args .inks .now)) s) (c .args .row) in
-    let e : c .row-bytes-bytes .result ≡ stride (s .width) = c .row-bytes-bytes .ensures ∙ ap stride (c .width .ensures) in
-    ( omega (arith, bytes-long f (stride (s .width)), e)
-    , c .loop-j .inv ∙ ap (λ n. over (c .args .buffer .now) (c .args .at) (bytes-of f n)) (omega (arith, e)))
+    let e : c .row-bytes-bytes .result ≡ stride (s .width) = c .row-bytes-bytes .ensures ∙ ap stride (c .width .ensures) in (
+      omega (arith, bytes-long f (stride (s .width)), e),
+      c .loop-j .inv ∙ ap (λ n. over (c .args .buffer .now) (c .args .at) (bytes-of f n)) (omega (arith, e)),
+    )

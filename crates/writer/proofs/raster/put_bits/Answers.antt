@@ -15,10 +15,11 @@ put-bit-row-place-requires g c κs =
     let m = g .I·InkSet .meaning (c .args .inks .now) in
     let s = g .S·Sheet .meaning (c .args .sheet .now) in
     let below : c .loop-row .row < s .height = omega (arith, c .height-row-end .ensures) in
-    let kept : length (c .loop-row .buffer) ≡ length (c .args .buffer .now) = c .loop-row .kept .buffer in
-    ( room (bit-row (g .T·Tone .count) (g .T·Tone .value) m s) (c .loop-row .row) (s .height) (stride (s .width)) (c .args .at) _ _
-      (λ j. bytes-long _ (stride (s .width))) below (c .loop-row .inv .0) (omega (arith, c .pre, kept))
-    , below)
+    let kept : length (c .loop-row .buffer) ≡ length (c .args .buffer .now) = c .loop-row .kept .buffer in (
+      room (bit-row (g .T·Tone .count) (g .T·Tone .value) m s) (c .loop-row .row) (s .height) (stride (s .width)) (c .args .at) _ _
+          (λ j. bytes-long _ (stride (s .width))) below (c .loop-row .inv .0) (omega (arith, c .pre, kept)),
+      below,
+    )
 
 pub loop-row-again : need.loop-row-again
 loop-row-again g c =

@@ -18,6 +18,7 @@ loop-i-again g c =
 pub returns : need.returns
 returns g c =
     let f = g .T·Tone .value (c .args .tone .now) in
-    let e = c .channels-i-end .ensures in
-    ( omega (arith, bytes-long f (g .T·Tone .count), c .channels .ensures)
-    , c .loop-i .inv ∙ ap (λ n. over (c .args .buffer .now) (c .args .at) (bytes-of f n)) (omega arith))
+    let e = c .channels-i-end .ensures in (
+      omega (arith, bytes-long f (g .T·Tone .count), c .channels .ensures),
+      c .loop-i .inv ∙ ap (λ n. over (c .args .buffer .now) (c .args .at) (bytes-of f n)) (omega arith),
+    )

@@ -27,6 +27,6 @@ loop-column-again g c =
     let m = g .I·InkSet .meaning (c .args .inks .now) in
     let s = g .S·Sheet .meaning (c .args .sheet .now) in
     let here : bytes-of (v (c .tone-tone .result)) n ≡ tone-bytes n v m s (c .args .row) (c .loop-column .column) =
-        ap (λ t. bytes-of (v t) n) (c .tone-tone .ensures .answer ∙ ap (ink-tone m) (c .ink-at .ensures)) in
+    ap (λ t. bytes-of (v t) n) (c .tone-tone .ensures .answer ∙ ap (ink-tone m) (c .ink-at .ensures)) in
     put-piece (tone-bytes n v m s (c .args .row)) (c .loop-column .column) (c .args .buffer .now) (c .args .at) _ _ _ _
     (omega (arith, c .pre .0)) (c .loop-column .inv) (put-as _ _ _ _ _ _ here (c .put-tone-place .ensures))

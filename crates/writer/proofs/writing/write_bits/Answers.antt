@@ -39,8 +39,8 @@ put-bits-requires g c κs =
     let s = g .S·Sheet .meaning (c .args .sheet .now) in
     let r = long (g .T·Tone .count) (g .T·Tone .value) m s _ _ _ (c .width-width .ensures) (c .height-height .ensures) (c .row-bytes .ensures) in
     let fits = raster-fits (codes "P4\n") (codes "\n") (bit-raster (g .T·Tone .count) (g .T·Tone .value) m s) (c .args .buffer .now) (s .width) (s .height) _ _ _ _
-        (c .width-width .ensures) (c .height-height .ensures) (c .header-length .ensures .value) r
-        (c .if-buffer-header-length .left) _ _ (c .put-header-at .ensures) in
+    (c .width-width .ensures) (c .height-height .ensures) (c .header-length .ensures .value) r
+    (c .if-buffer-header-length .left) _ _ (c .put-header-at .ensures) in
     omega (arith, fits, r, bits-long (g .T·Tone .count) (g .T·Tone .value) m s)
 
 pub returns : need.returns

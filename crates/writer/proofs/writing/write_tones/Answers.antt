@@ -39,8 +39,8 @@ put-tones-requires g c κs =
     let s = g .S·Sheet .meaning (c .args .sheet .now) in
     let r = long (g .T·Tone .count) (g .T·Tone .value) m s _ _ _ (c .width-width .ensures) (c .height-height .ensures) (c .channels .ensures) in
     let fits = raster-fits (80 ∷ c .page-letter .result ∷ codes "\n") (codes "\n255\n") (tone-raster (g .T·Tone .count) (g .T·Tone .value) m s) (c .args .buffer .now) (s .width) (s .height) _ _ _ _
-        (c .width-width .ensures) (c .height-height .ensures) (c .header-length .ensures .value) r
-        (c .if-buffer-header-length .left) _ _ (c .put-header-at .ensures) in
+    (c .width-width .ensures) (c .height-height .ensures) (c .header-length .ensures .value) r
+    (c .if-buffer-header-length .left) _ _ (c .put-header-at .ensures) in
     omega (arith, fits, r, tones-long (g .T·Tone .count) (g .T·Tone .value) m s)
 
 pub returns : need.returns

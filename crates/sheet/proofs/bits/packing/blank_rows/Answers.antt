@@ -12,4 +12,4 @@ loop-i-again c =
     let i = c .loop-i .i in
     ap (λ t. set t i (c .blank-byte .result)) (c .loop-i .inv)
     ∙ made-more (λ k. row-byte w blank (k / stride w) (k % stride w)) (c .args .memory .now) i (c .blank-byte .result)
-      (omega (arith, c .pre .0)) (rw (c .row-bytes-stride .ensures) at (c .blank-byte .ensures (i / stride w)))
+    (omega (arith, c .pre .0)) (rw (c .row-bytes-stride .ensures) at (c .blank-byte .ensures (i / stride w)))

@@ -16,9 +16,13 @@ returns c =
     let ew : w ≡ cond (fits w h (w * h) (length m)) w 0 = search needs in
     let eh : h ≡ cond (fits w h (w * h) (length m)) h 0 = search needs in
     let e : c .clear .last .memory ≡ byte-memory w h blank (drop (w * h) m) = c .clear .ensures ∙ byte-new _ w h (drop (w * h) m) refl in
-    record
-    { means = record
-        { as-wide = ew; as-high = eh; as-limit = refl
-        ; inks = λ i j p q. byte-inks-of (c .clear .last .memory) w h blank (drop (w * h) m) e i j (rw (sym eh) at p) (rw (sym ew) at q) }
-    ; memory = e
-    ; lent = refl }
+    record {
+      means = record {
+        as-wide = ew;
+        as-high = eh;
+        as-limit = refl;
+        inks = λ i j p q. byte-inks-of (c .clear .last .memory) w h blank (drop (w * h) m) e i j (rw (sym eh) at p) (rw (sym ew) at q);
+      };
+      memory = e;
+      lent = refl;
+    }

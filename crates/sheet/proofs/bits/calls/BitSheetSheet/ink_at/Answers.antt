@@ -8,7 +8,7 @@ pub index-self-at : need.index-self-at
 index-self-at c =
     rw (c .row-bytes .ensures)
     (bit-within (c .args .row) (c .args .column) (c .args .self .now .width) (c .args .self .now .height) (length (c .args .self .now .rows .now))
-      (omega arith) (omega arith) (c .args .self .now .room))
+    (omega arith) (omega arith) (c .args .self .now .room))
 
 pub returns : need.returns
 returns c = rw (c .row-bytes .ensures) (search needs)

@@ -15,13 +15,13 @@ pub index-self-at : need.index-self-at
 index-self-at c =
     rw (c .row-bytes .ensures)
     (bit-within (c .args .row) (c .args .column) (c .args .self .now .width) (c .args .self .now .height) (length (c .args .self .now .rows .now))
-      (omega arith) (omega arith) (c .args .self .now .room))
+    (omega arith) (omega arith) (c .args .self .now .room))
 
 pub index-self-at-2 : need.index-self-at-2
 index-self-at-2 c =
     rw (c .row-bytes .ensures)
     (bit-within (c .args .row) (c .args .column) (c .args .self .now .width) (c .args .self .now .height) (length (c .args .self .now .rows .now))
-      (omega arith) (omega arith) (c .args .self .now .room))
+    (omega arith) (omega arith) (c .args .self .now .room))
 
 pub ghost-self : need.ghost-self
 ghost-self c =
@@ -33,16 +33,23 @@ ghost-self c =
     let p : r < s .height = omega arith in
     let q : k < s .width = omega arith in
     let at : r * stride (s .width) + k / 8 < length xs =
-      bit-within r k (s .width) (s .height) (length xs) p q (s .room) in
+    bit-within r k (s .width) (s .height) (length xs) p q (s .room) in
     let others : (j : ℕ) → j < 8 → (j ≡ k % 8 → ⊥) → bit v j ≡ bit (getD xs (r * stride (s .width) + k / 8) 0) j =
-      rw (c .row-bytes .ensures) at (c .with-bit .ensures .others) in
-    ( s .wide
-    , ( s .high
-      , ( rw (length-set xs (r * c .row-bytes .result + k / 8) v) (s .room)
-        , ( rw (c .row-bytes .ensures)
-            (packed-put xs (s .width) (s .height) r k v (c .args .number) at q (c .with-bit .ensures .here) others
-              p (omega (arith, c .with-bit .ok)) (s .room) (s .packed))
-          , tt))))
+    rw (c .row-bytes .ensures) at (c .with-bit .ensures .others) in (
+      s .wide,
+      (
+        s .high,
+        (
+          rw (length-set xs (r * c .row-bytes .result + k / 8) v) (s .room),
+          (
+            rw (c .row-bytes .ensures)
+                (packed-put xs (s .width) (s .height) r k v (c .args .number) at q (c .with-bit .ensures .here) others
+                p (omega (arith, c .with-bit .ok)) (s .room) (s .packed)),
+            tt,
+          ),
+        ),
+      ),
+    )
 
 pub returns : need.returns
 returns c =
@@ -54,16 +61,23 @@ returns c =
     let p : r < s .height = omega arith in
     let q : k < s .width = omega arith in
     let at : r * stride (s .width) + k / 8 < length xs =
-      bit-within r k (s .width) (s .height) (length xs) p q (s .room) in
+    bit-within r k (s .width) (s .height) (length xs) p q (s .room) in
     let others : (j : ℕ) → j < 8 → (j ≡ k % 8 → ⊥) → bit v j ≡ bit (getD xs (r * stride (s .width) + k / 8) 0) j =
-      rw (c .row-bytes .ensures) at (c .with-bit .ensures .others) in
-    record
-    { answer = search needs
-    ; after = record
-        { width = refl; height = refl; limit = refl
-        ; inks = λ i j m n. rw (c .row-bytes .ensures)
+    rw (c .row-bytes .ensures) at (c .with-bit .ensures .others) in
+    record {
+      answer = search needs;
+      after = record {
+        width = refl;
+        height = refl;
+        limit = refl;
+        inks = λ i j m n. rw (c .row-bytes .ensures)
             (bit-put xs (s .width) (s .height) r k v (c .args .number) at q (c .with-bit .ensures .here) others
-              (omega arith) i j n) }
-    ; keeps = (refl, rw (c .row-bytes .ensures)
-        (drop-set-lt (stride (s .width) * s .height) xs (r * stride (s .width) + k / 8) v
-          (mul-add-lt r (stride (s .width)) (k / 8) (s .height) p (omega arith)))) }
+            (omega arith) i j n);
+      };
+      keeps = (
+        refl,
+        rw (c .row-bytes .ensures)
+            (drop-set-lt (stride (s .width) * s .height) xs (r * stride (s .width) + k / 8) v
+            (mul-add-lt r (stride (s .width)) (k / 8) (s .height) p (omega arith))),
+      );
+    }

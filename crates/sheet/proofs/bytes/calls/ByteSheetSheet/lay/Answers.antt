@@ -21,13 +21,20 @@ ghost-self c =
     let k = c .args .column in
     let p : r < s .height = omega arith in
     let q : k < s .width = omega arith in
-    let small : c .args .number < 256 = omega arith in
-    ( s .wide
-    , ( s .high
-      , ( rw (length-set (s .cells .now) (r * s .width + k) (c .args .number)) (s .room)
-        , ( byte-below (s .cells .now) (s .width) (s .height) r k (c .args .number)
-              (within r k (s .width) (s .height) (length (s .cells .now)) p q (s .room)) q small (s .below)
-          , tt))))
+    let small : c .args .number < 256 = omega arith in (
+      s .wide,
+      (
+        s .high,
+        (
+          rw (length-set (s .cells .now) (r * s .width + k) (c .args .number)) (s .room),
+          (
+            byte-below (s .cells .now) (s .width) (s .height) r k (c .args .number)
+                (within r k (s .width) (s .height) (length (s .cells .now)) p q (s .room)) q small (s .below),
+            tt,
+          ),
+        ),
+      ),
+    )
 
 pub returns : need.returns
 returns c =
@@ -36,11 +43,18 @@ returns c =
     let k = c .args .column in
     let p : r < s .height = omega arith in
     let q : k < s .width = omega arith in
-    record
-    { answer = search needs
-    ; after = record
-        { width = refl; height = refl; limit = refl
-        ; inks = λ i j m n. byte-put (s .cells .now) (s .width) r k (c .args .number) i j
-            (within r k (s .width) (s .height) (length (s .cells .now)) p q (s .room)) q n }
-    ; keeps = (refl, drop-set-lt (s .width * s .height) (s .cells .now) (r * s .width + k) (c .args .number)
-        (mul-add-lt r (s .width) k (s .height) p q)) }
+    record {
+      answer = search needs;
+      after = record {
+        width = refl;
+        height = refl;
+        limit = refl;
+        inks = λ i j m n. byte-put (s .cells .now) (s .width) r k (c .args .number) i j
+            (within r k (s .width) (s .height) (length (s .cells .now)) p q (s .room)) q n;
+      };
+      keeps = (
+        refl,
+        drop-set-lt (s .width * s .height) (s .cells .now) (r * s .width + k) (c .args .number)
+            (mul-add-lt r (s .width) k (s .height) p q),
+      );
+    }
