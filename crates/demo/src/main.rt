@@ -1,7 +1,8 @@
 // One page from standard input to a page file: read, cropped, turned to its negative, and printed with the nearest inks.
 //
 // The work is `stages`, a function on values with a contract; this file reads, picks the kind of tone and its inks,
-// prints what was done, and writes the page to the file that the first argument names, if there is one.
+// prints what was done, and writes the page to the file that the first argument names, if there is one. A second
+// argument is the number of levels in each channel, 4 for grey and 2 for colour if there is none.
 mod parts;
 mod print;
 mod stages;
@@ -95,10 +96,13 @@ fn print_refusal(rt: &LibcRuntime, fault: &PageFault) -> io::Result<()> {
     println!(rt, "no page: fault {number} at byte {byte}")
 }
 
-// Reads the written page again, and shows it.
+// Reads the written page again, and shows it. A bitmap is not read.
 fn print_written<T: PageTone>(rt: &LibcRuntime, page: &[u8]) -> io::Result<()> {
     let length = page.len();
     println!(rt, "wrote a page of {length} bytes")?;
+    if let [b'P', b'4', ..] = page {
+        return println!(rt, "it is a bitmap");
+    }
     match read::<T>(page) {
         Ok(reader) => print_stage(rt, "written page", &look(rt.alloc(), &reader)?),
         Err(fault) => print_refusal(rt, &fault),
@@ -107,11 +111,17 @@ fn print_written<T: PageTone>(rt: &LibcRuntime, page: &[u8]) -> io::Result<()> {
 
 // Writes the page to the file that the first argument names.
 fn save(rt: &LibcRuntime, page: &[u8]) -> io::Result<()> {
-    let mut words = env::args(rt)?;
-    let _program = words.next();
-    match words.next() {
+    match env::args(rt)?.nth(1) {
         Some(path) => fs::write(rt, path.as_str(), page),
         None => Ok(()),
+    }
+}
+
+// The number that the second argument gives, or `steps`.
+fn levels(rt: &LibcRuntime, steps: u16) -> io::Result<u16> {
+    match env::args(rt)?.nth(2) {
+        Some(word) => Ok(word.as_str().parse::<u16>().unwrap_or(steps)),
+        None => Ok(steps),
     }
 }
 
@@ -142,12 +152,13 @@ fn main(rt: LibcRuntime) -> io::Result<()> {
     let mut input = Vec::new(rt.alloc());
     rt.stdin().take(INPUT).read_to_end(&mut input)?;
     match input.as_slice() {
-        [b'P', b'6', ..] => show::<Colour, ColourLevels>(
-            &rt,
-            "colour",
-            &input,
-            &ColourLevels::new(2),
-        ),
-        _ => show::<Grey, GreyLevels>(&rt, "grey", &input, &GreyLevels::new(4)),
+        [b'P', b'6', ..] => {
+            let inks = ColourLevels::new(levels(&rt, 2)?);
+            show::<Colour, ColourLevels>(&rt, "colour", &input, &inks)
+        }
+        _ => {
+            let inks = GreyLevels::new(levels(&rt, 4)?);
+            show::<Grey, GreyLevels>(&rt, "grey", &input, &inks)
+        }
     }
 }
