@@ -28,19 +28,17 @@ levels = inks-of (grey-levels 2 refl)
 abbrev pub greys : (tones : List ℕ) → length (map (λ t. grey-made (t ∷ [])) tones) ≤ 256 → Inks Grey
 greys tones few = ink-list 1 grey-value grey-made (map (λ t. grey-made (t ∷ [])) tones) few
 
--- A page, what it takes in the order of its cells, and what it comes to.
-pub record Case : Type 0 where
-  pub setup : Setup
-  pub takes : List ℕ
-  pub comes-to : Outcome
+-- A worked case: a page by its set-up and the samples that it takes, with what it comes to; or the number that an ink set
+-- chooses, with what it should be.
+pub data Case : Type 0 where
+  page : Setup → List ℕ → Outcome → Case
+  chosen : ℕ → ℕ → Case
 
 -- a grey page of w by h cells: its samples, its inks in the order of the cells done, and its seven accounts
 abbrev grey : ℕ → ℕ → Order → Shape → InkSet → List ℕ → List ℕ → List ℤ → Case
-grey w h order kernel inks samples numbers sums = record {
-  setup = record { page = record { width = w; height = h; order = order }; kernel = kernel; channels = 1; inks = inks };
-  takes = samples;
-  comes-to = record { inks = numbers; accounts = sums ∷ [] };
-}
+grey w h order kernel inks samples numbers sums =
+    page (record { page = record { width = w; height = h; order = order }; kernel = kernel; channels = 1; inks = inks })
+    samples (record { inks = numbers; accounts = sums ∷ [] })
 
 abbrev less : ℕ → ℤ
 less n = negℤ (pos n)
@@ -58,34 +56,34 @@ cases =
     ∷ grey 1 1 Raster atkinson levels (100 ∷ []) (0 ∷ []) (pos 800 ∷ pos 0 ∷ pos 0 ∷ pos 600 ∷ pos 200 ∷ pos 0 ∷ pos 0 ∷ [])
     -- one ink of tone 0, and all of the error passed on: the third value is cut at 510
     ∷ grey 3 1 Raster (shape 1 (tap 0 (pos 1) 1 ∷ [])) (inks-of (greys (0 ∷ []) (omega arith))) (255 ∷ 255 ∷ 255 ∷ []) (0 ∷ 0 ∷ 0 ∷ [])
-    (pos 765 ∷ pos 0 ∷ pos 0 ∷ pos 510 ∷ pos 0 ∷ pos 0 ∷ pos 255 ∷ [])
+        (pos 765 ∷ pos 0 ∷ pos 0 ∷ pos 510 ∷ pos 0 ∷ pos 0 ∷ pos 255 ∷ [])
+    -- levels
+    ∷ chosen (grey-levels 2 refl .choice (pos 127 ∷ [])) 0
+    ∷ chosen (grey-levels 2 refl .choice (pos 128 ∷ [])) 1
+    ∷ chosen (grey-levels 4 refl .choice (pos 42 ∷ [])) 0
+    ∷ chosen (grey-levels 4 refl .choice (pos 43 ∷ [])) 1
+    ∷ chosen (colour-levels 2 refl .choice (pos 200 ∷ pos 10 ∷ pos 128 ∷ [])) 5
+    -- lists: a tie goes to the lower number
+    ∷ chosen (greys (10 ∷ 20 ∷ []) (omega arith) .choice (pos 15 ∷ [])) 0
+    ∷ chosen (greys (20 ∷ 10 ∷ []) (omega arith) .choice (pos 15 ∷ [])) 0
     -- a row of two, after its first cell and after both
     ∷ grey 2 1 Raster floyd levels (100 ∷ []) (0 ∷ []) (pos 1600 ∷ pos 0 ∷ pos 700 ∷ pos 900 ∷ pos 0 ∷ pos 0 ∷ pos 0 ∷ [])
     ∷ grey 2 1 Raster floyd levels (100 ∷ 100 ∷ []) (0 ∷ 1 ∷ []) (pos 3200 ∷ pos 4080 ∷ pos 0 ∷ less 892 ∷ pos 0 ∷ pos 12 ∷ pos 0 ∷ [])
     ∷ []
 
--- an ink set's choice for the values of the channels, and the number it should be
-pub record Choice : Type 0 where
-  pub chosen : ℕ
-  pub expected : ℕ
+-- what a case comes to
+pub data Found : Type 0 where
+  outcome-is : Outcome → Found
+  number-is : ℕ → Found
 
-abbrev choice : ℕ → ℕ → Choice
-choice c e = record { chosen = c; expected = e }
+abbrev pub found : Case → Found
+found (page S xs o) = outcome-is (outcome S (map (λ x. x ∷ []) xs))
+found (chosen k e) = number-is k
 
-abbrev pub choices : List Choice
-choices =
-    choice (grey-levels 2 refl .choice (pos 127 ∷ [])) 0
-    ∷ choice (grey-levels 2 refl .choice (pos 128 ∷ [])) 1
-    ∷ choice (grey-levels 4 refl .choice (pos 42 ∷ [])) 0
-    ∷ choice (grey-levels 4 refl .choice (pos 43 ∷ [])) 1
-    ∷ choice (colour-levels 2 refl .choice (pos 200 ∷ pos 10 ∷ pos 128 ∷ [])) 5
-    -- a tie goes to the lower number
-    ∷ choice (greys (10 ∷ 20 ∷ []) (omega arith) .choice (pos 15 ∷ [])) 0
-    ∷ choice (greys (20 ∷ 10 ∷ []) (omega arith) .choice (pos 15 ∷ [])) 0
-    ∷ []
+abbrev pub expected : Case → Found
+expected (page S xs o) = outcome-is o
+expected (chosen k e) = number-is e
 
--- every page and every choice comes out as listed
+-- every case comes out as it was worked out
 abbrev pub Worked : Type 0
-Worked =
-    (map (λ c. outcome (c .setup) (map (λ x. x ∷ []) (c .takes))) cases ≡ map (λ c. c .comes-to) cases)
-    × (map (λ c. c .chosen) choices ≡ map (λ c. c .expected) choices)
+Worked = map found cases ≡ map expected cases

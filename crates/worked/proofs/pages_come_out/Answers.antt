@@ -4,4 +4,4 @@ use Rattle.worked.proofs.pages_come_out.Needs as need
 
 pub returns : need.returns
 unfolding outcome
-returns c = (refl, refl)
+returns c = refl
