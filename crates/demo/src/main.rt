@@ -3,6 +3,8 @@
 // The work is `stages`, a function on values with a contract; this file reads, picks the kind of tone and its inks,
 // prints what was done, and writes the page to the file that the first argument names, if there is one. A second
 // argument is the number of levels in each channel, 4 for grey and 2 for colour if there is none.
+#![tactic(auto)]
+
 mod parts;
 mod print;
 mod stages;

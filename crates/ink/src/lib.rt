@@ -2,6 +2,8 @@
 //
 // `InkSet` is the interface that jobs and the page writer are written against. `GreyLevels` and `ColourLevels` have
 // equal steps in each channel, `InkList` has any tones that the caller lists.
+#![tactic(auto)]
+
 pub mod levels;
 pub mod list;
 mod nearness;

@@ -1,4 +1,6 @@
 // Kernels: where the error of a cell goes, and in what shares.
+#![tactic(auto)]
+
 pub mod set;
 pub mod shape;
 pub mod tables;

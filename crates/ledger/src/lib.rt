@@ -1,6 +1,8 @@
 // The mathematics of the ledger: the definition of the dots, the seven
 // accounts, and what always holds of them. There is hardly any code: the
 // contract of each function of this file is a theorem, proved in proofs/.
+#![tactic(auto)]
+
 pub mod order;
 
 ghost use Rattle.ledger.specs.Follows.{Met, Fixed};

@@ -2,6 +2,8 @@
 //
 // `read` takes the bytes of a page file and answers a `Reader`, which is a source that stands on
 // those bytes, or the fault with the byte where reading stopped.
+#![tactic(auto)]
+
 pub mod fault;
 mod fields;
 mod guard;

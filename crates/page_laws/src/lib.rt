@@ -1,4 +1,6 @@
 // Laws of page files. Each function's contract is one theorem, proved in proofs/; the functions do nothing.
+#![tactic(auto)]
+
 ghost use Rattle.page_laws.specs.Plain.{PlainPage};
 ghost use Rattle.page_laws.specs.Readings.{OneReading};
 

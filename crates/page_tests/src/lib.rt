@@ -4,6 +4,8 @@
 //
 // The crate itself holds what the tests need: `Seen`, an answer in a form that a table can hold, two
 // kinds of tone that no other crate knows, and a bottom with a layer number of its own.
+#![tactic(auto)]
+
 pub mod flat;
 pub mod kinds;
 pub mod outcome;

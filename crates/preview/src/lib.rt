@@ -1,4 +1,6 @@
 // A page as text: a mark for each place, and the first place that is missing.
+#![tactic(auto)]
+
 pub mod looking;
 pub mod view;
 

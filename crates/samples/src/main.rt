@@ -1,5 +1,7 @@
 // Reads page files that other programs wrote, and prints each: its kind, its size and every sample,
 // or the refusal with its number and byte. `data/README.md` says how each file was made.
+#![tactic(auto)]
+
 mod open;
 mod opened;
 mod text;

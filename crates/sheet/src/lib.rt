@@ -2,6 +2,8 @@
 //
 // `Sheet` is the interface that jobs and the page writer are written against. `ByteSheet` keeps one byte for
 // each place, `BitSheet` one bit, both in memory that the caller lends.
+#![tactic(auto)]
+
 pub mod bits;
 pub mod bytes;
 pub mod fault;

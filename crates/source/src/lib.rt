@@ -3,6 +3,8 @@
 // A source means a page: its size, and at each place a tone or a missing place. `Chart` is a source
 // that needs no file; `Crop` and `Negative` are layers, which hold the source below by value and are
 // sources themselves, so that they stack to any height.
+#![tactic(auto)]
+
 pub mod chart;
 pub mod crop;
 pub mod fault;

@@ -2,6 +2,8 @@
 //
 // `Tone` is the interface that everything above is written against: sources, ink sets, readers and
 // jobs take any kind. `Grey` has one channel, `Colour` has red, green and blue.
+#![tactic(auto)]
+
 pub mod kinds;
 pub mod tones;
 

@@ -2,6 +2,8 @@
 //
 // Two grey inks, black then white, make a bitmap (P4) with packed rows. Any other set makes a page of the
 // inks' tones, P5 for grey and P6 for colour.
+#![tactic(auto)]
+
 pub mod fault;
 mod raster;
 mod text;
