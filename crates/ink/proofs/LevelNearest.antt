@@ -1,5 +1,5 @@
 -- Each channel's nearest level makes the nearest ink.
-use Rattle.std.proofs.Common.{◌≡◌, ℕ, suc, ◌+◌, ◌-◌, ◌*◌, ◌/◌, ◌%◌, ◌<◌, ◌≤◌, min, true, List, get_or, ℤ, pos, negsuc, ◌-ℤ◌, nat_abs, sym, refl, ap, ◌∙◌, ⊎_elim, mul-le-mul_right, mul_comm, add_mul, arith}
+use Rattle.std.proofs.Common.{◌≡◌, ℕ, suc, ◌+◌, ◌-◌, ◌*◌, ◌/◌, ◌%◌, ◌<◌, ◌≤◌, min, true, List, get_or, ℤ, pos, negsuc, ◌-ℤ◌, nat_abs, sym, refl, ap, ◌∙◌, ⊎_elim, mul-le-mul_right, mul_comm, add-mul, arith}
 use Rattle.std.proofs.lemmas.Nat.{div-add-mod', div_below, mod_below}
 use Rattle.std.proofs.lemmas.Bool.{cases_eq, cases_lt}
 use Rattle.ink.specs.Inks.{Inks}
@@ -12,7 +12,7 @@ use Rattle.ink.proofs.Apart.{abs_neg, abs_pos, squared_lt}
 -- a number less by one is less by a gap, counted in gaps
 gaps : (i k gap : ℕ) → i < k → i * gap + gap ≤ k * gap
 gaps i k gap l =
-    let e : (i + 1) * gap ≡ i * gap + 1 * gap = add_mul i 1 gap in
+    let e : (i + 1) * gap ≡ i * gap + 1 * gap = add-mul i 1 gap in
     let m : (i + 1) * gap ≤ k * gap = mul-le-mul_right gap (omega arith) in
     omega arith
 

@@ -1,6 +1,6 @@
 -- Facts on levels that the meanings of the two sets carry: the nearest level is a level, and it is within half a gap.
 use Rattle.std.specs.Prelude.{◌≡◌, ℕ, zero, suc, ◌+◌, ◌-◌, ◌*◌, ◌/◌, ◌%◌, ◌<◌, ◌≤◌, min, Bool, true, ◌&&◌, leb, List, [], ◌∷◌, get_or, ℤ, pos, negsuc, ◌+ℤ◌, neg_ℤ, ◌≤ℤ◌, Some, Option, ◌==◌, nat_le, slice_index_or, refl}
-use Rattle.std.proofs.Common.{⊎_elim, ap, ◌∙◌, add_mul, mul-le-mul_right, zero-mul, arith}
+use Rattle.std.proofs.Common.{⊎_elim, ap, ◌∙◌, add-mul, mul-le-mul_right, zero-mul, arith}
 use Rattle.std.proofs.lemmas.Nat.{div-add-mod', div_below, div-mul-add, le-div, mod_below, mod-mul-add}
 use Rattle.std.proofs.lemmas.Int.{ints}
 use Rattle.std.proofs.lemmas.Bool.{and_parts, cases_lt, eqb-true, leb-true, or_cases}
@@ -19,7 +19,7 @@ module _ (n gap : ℕ) (ok : EvenSteps n gap) where
   pub all_gaps : n * gap ≡ 255 + gap
   all_gaps =
       let m : (n - 1) + 1 ≡ n = omega (arith, ok.two) in
-      let e : ((n - 1) + 1) * gap ≡ (n - 1) * gap + 1 * gap = add_mul (n - 1) 1 gap in
+      let e : ((n - 1) + 1) * gap ≡ (n - 1) * gap + 1 * gap = add-mul (n - 1) 1 gap in
       let f : n * gap ≡ (n - 1) * gap + 1 * gap = rw m at e in
       omega (arith, ok.whole)
 

@@ -40,7 +40,7 @@ fn tone_at<T: Tone>(bytes: &[u8], from: usize) -> T
 }
 
 impl<'a, T: Tone> Source<T> for Reader<'a, T> {
-    ghost page = { reader_page T-as-Tone.count T-as-Tone.made };
+    ghost page = { reader_page T.Tone.count T.Tone.made };
 
     fn width(&self) -> u16 {
         self.header.width

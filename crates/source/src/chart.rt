@@ -51,7 +51,7 @@ fn uniform<T: Tone>(value: u8) -> T
 }
 
 impl<T: Tone> Source<T> for Chart<T> {
-    ghost page = { λ s. chart_page T-as-Tone.count T-as-Tone.made s.width s.height };
+    ghost page = { λ s. chart_page T.Tone.count T.Tone.made s.width s.height };
 
     fn width(&self) -> u16 {
         self.width

@@ -34,7 +34,7 @@ fn negative_of<T: Tone>(tone: T) -> T
 }
 
 impl<T: Tone, S: Source<T>> Source<T> for Negative<S> {
-    ghost page = { λ s. negated T-as-Tone.count T-as-Tone.value T-as-Tone.made s.on (S.Source.page s.below) };
+    ghost page = { λ s. negated T.Tone.count T.Tone.value T.Tone.made s.on (S.Source.page s.below) };
 
     fn width(&self) -> u16 {
         self.below.width()

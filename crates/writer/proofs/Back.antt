@@ -1,5 +1,5 @@
 -- The round trip: each sample of a written page stands where the reader looks for it.
-use Rattle.std.proofs.Common.{◌≡◌, ℕ, zero, suc, ◌+◌, ◌-◌, ◌*◌, ◌<◌, ◌≤◌, true, false, cond, leb, List, ◌++◌, length, get_or, drop, Ok, Err, Result, sym, refl, ap, ◌∙◌, subst, ⊎_elim, true≢false, append_assoc, not-suc-le-zero, mul_assoc, mul_comm, add_mul, add-one, arith}
+use Rattle.std.proofs.Common.{◌≡◌, ℕ, zero, suc, ◌+◌, ◌-◌, ◌*◌, ◌<◌, ◌≤◌, true, false, cond, leb, List, ◌++◌, length, get_or, drop, Ok, Err, Result, sym, refl, ap, ◌∙◌, subst, ⊎_elim, true≢false, append_assoc, not-suc-le-zero, mul_assoc, mul_comm, add-mul, add-one, arith}
 use Rattle.std.proofs.lemmas.Nat.{mul-add-lt}
 use Rattle.std.proofs.lemmas.List.FromFn.{get_or-map-range_with_len}
 use Rattle.std.proofs.lemmas.List.{length-append, get_or_append_left, get_or-append-add}
@@ -52,7 +52,7 @@ module _ {T : Type 0} (letter n : ℕ) (value : T → ℕ → ℕ) (made : List 
 
   -- where channel i of a place stands among the samples
   at_same : (r c i : ℕ) → (r * s.width + c) * n + i ≡ r * (s.width * n) + (c * n + i)
-  at_same r c i = omega (arith, add_mul (r * s.width) c n, mul_assoc r s.width n)
+  at_same r c i = omega (arith, add-mul (r * s.width) c n, mul_assoc r s.width n)
 
   row_holds : (c i : ℕ) → c < s.width → i < n → c * n + i < s.width * n
   row_holds c i q t = omega (arith, mul-add-lt c n i s.width q t, mul_comm n s.width)

@@ -1,5 +1,5 @@
 -- Pieces written one after the other.
-use Rattle.std.proofs.Common.{◌≡◌, ℕ, zero, suc, ◌+◌, ◌*◌, ◌/◌, ◌%◌, ◌^◌, ◌<◌, ◌≤◌, List, [], ◌∷◌, ◌++◌, length, get_or, take, drop, set, Ok, Err, codes, decimal, sym, refl, ap, ◌∙◌, subst, append_assoc, add_mul, zero-mul, add-one, arith}
+use Rattle.std.proofs.Common.{◌≡◌, ℕ, zero, suc, ◌+◌, ◌*◌, ◌/◌, ◌%◌, ◌^◌, ◌<◌, ◌≤◌, List, [], ◌∷◌, ◌++◌, length, get_or, take, drop, set, Ok, Err, codes, decimal, sym, refl, ap, ◌∙◌, subst, append_assoc, add-mul, zero-mul, add-one, arith}
 use lib.Seq.{paste}
 use Rattle.std.proofs.lemmas.Nat.{mul-le}
 use Rattle.std.proofs.lemmas.List.FromFn.{map-range_with_len_more, length-map-range_with_len}
@@ -92,12 +92,12 @@ pub pieces_long : (f : ℕ → List ℕ) (n k : ℕ) → ((i : ℕ) → length (
 pieces_long f zero k e = sym (zero-mul k)
 pieces_long f (suc n) k e =
     let more : length (pieces f (n + 1)) ≡ (n + 1) * k =
-    ap length (sym (pieces_step f n)) ∙ (length-append (pieces f n) (f n) ∙ omega (arith, pieces_long f n k e, e n, add_mul n 1 k)) in
+    ap length (sym (pieces_step f n)) ∙ (length-append (pieces f n) (f n) ∙ omega (arith, pieces_long f n k e, e n, add-mul n 1 k)) in
     subst (λ (m : ℕ). length (pieces f m) ≡ m * k) (add-one n) more
 
 -- a piece below the n-th fits where n pieces do
 pub piece_fits : (i n k : ℕ) → i < n → i * k + k ≤ n * k
-piece_fits i n k h = let m : (i + 1) * k ≤ n * k = mul-le (i + 1) k n k (omega arith) (omega arith) in omega (arith, m, add_mul i 1 k)
+piece_fits i n k h = let m : (i + 1) * k ≤ n * k = mul-le (i + 1) k n k (omega arith) (omega arith) in omega (arith, m, add-mul i 1 k)
 
 pub put_none : (a : List ℕ) (at : ℕ) → Put a at [] a at
 put_none a at = (omega arith, over_none a at)
