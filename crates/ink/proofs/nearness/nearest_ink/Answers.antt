@@ -11,7 +11,7 @@ pub loop-i-init : goal.loop-i-init
 loop-i-init g c =
     let far = distance g.T.Tone.count g.T.Tone.value c.args.wanted.now in
     seek_start far c.args.inks.now c.index-inks-0.result (omega arith)
-    ∙ ap (λ x. seek far 0 x 0 c.args.inks.now) (ap far (sym c.index-inks-0.is) ∙ sym c.distance-to-least.ensures)
+    ∙ ap (λ x. seek far 0 x 0 c.args.inks.now) (ap far (sym c.index-inks-0.is) ∙ sym c.distance_to-least.ensures)
 
 pub loop-i-preserved : goal.loop-i-preserved
 loop-i-preserved g c =
@@ -21,18 +21,18 @@ loop-i-preserved g c =
     let b = c.loop-i.best in
     let l = c.loop-i.least in
     let rest = drop (i + 1) ts in
-    let here : far (get_or ts i c.index-inks-i.result) ≡ c.distance-to-distance.result = ap far (sym c.index-inks-i.is) ∙ sym c.distance-to-distance.ensures in
-    let turn : seek far b l i (drop i ts) ≡ cond (ltb c.distance-to-distance.result l) (seek far i c.distance-to-distance.result (i + 1) rest) (seek far b l (i + 1) rest) =
+    let here : far (get_or ts i c.index-inks-i.result) ≡ c.distance_to-distance.result = ap far (sym c.index-inks-i.is) ∙ sym c.distance_to-distance.ensures in
+    let turn : seek far b l i (drop i ts) ≡ cond (ltb c.distance_to-distance.result l) (seek far i c.distance_to-distance.result (i + 1) rest) (seek far b l (i + 1) rest) =
     seek_more far ts c.index-inks-i.result b l i (omega arith)
     ∙ ap (λ x. cond (ltb x l) (seek far i x (i + 1) rest) (seek far b l (i + 1) rest)) here in
     c.loop-i.invariant ∙ (turn
     ∙ elim c.if-distance-least.branch [
       | then-distance-least w ↦
-          cond-true (ltb c.distance-to-distance.result l) _ _ (lt-ltb c.distance-to-distance.result l w.if-distance-least.true)
-          ∙ (ap (λ x. seek far x c.distance-to-distance.result (i + 1) rest) (sym w.best-is)
+          cond-true (ltb c.distance_to-distance.result l) _ _ (lt-ltb c.distance_to-distance.result l w.if-distance-least.true)
+          ∙ (ap (λ x. seek far x c.distance_to-distance.result (i + 1) rest) (sym w.best-is)
           ∙ ap (λ x. seek far c.if-distance-least.best x (i + 1) rest) (sym w.least-is))
       | else-distance-least w ↦
-          cond-false (ltb c.distance-to-distance.result l) _ _ (le-ltb c.distance-to-distance.result l w.if-distance-least.false)
+          cond-false (ltb c.distance_to-distance.result l) _ _ (le-ltb c.distance_to-distance.result l w.if-distance-least.false)
           ∙ (ap (λ x. seek far x l (i + 1) rest) (sym w.best-is)
           ∙ ap (λ x. seek far c.if-distance-least.best x (i + 1) rest) (sym w.least-is))
     ])

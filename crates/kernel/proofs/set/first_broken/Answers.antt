@@ -9,8 +9,8 @@ loop-i-preserved c =
     let s = walk_on c.loop-i.before c.args.taps.now c.loop-i.i c.loop-i-test.true in
     search (rules, s)
 
-pub returns-then-not-keeps-rules : goal.returns-then-not-keeps-rules
-returns-then-not-keeps-rules c =
+pub returns-then-not-keeps_rules : goal.returns-then-not-keeps_rules
+returns-then-not-keeps_rules c =
     let s = walk_stops c.loop-i.before c.args.taps.now c.loop-i.i c.loop-i-test.true in
     let k = s (search rules) in
     let inv = c.loop-i.invariant in

@@ -12,8 +12,8 @@ returns c =
     let u = c.args.wanted in
     let f : SFits w32 (get_or u 0 (pos 0)) = search rules in
     let l : 0 < length u = search rules in
-    let r : c.nearest-level.result ≡ level s.gap (get_or u 0 (pos 0)) = simp to_z-of_z at c.nearest-level.ensures in
-    let e : c.nearest-level.result ≡ grey_choice s.steps (values 1 u) =
+    let r : c.nearest_level.result ≡ level s.gap (get_or u 0 (pos 0)) = simp to_z-of_z at c.nearest_level.ensures in
+    let e : c.nearest_level.result ≡ grey_choice s.steps (values 1 u) =
     r ∙ (ap (λ k. level k (get_or u 0 (pos 0))) s.equal ∙ level_at 1 (gap_of s.steps) u 0 (omega arith) l) in
     record {
       kind = (refl, refl);

@@ -6,10 +6,10 @@ use Rattle.ink.proofs.Limited.{all_limited, same_values}
 use Rattle.ink.proofs.ListNearest.{list_nearest, same_distance}
 use Rattle.ink.proofs.list.calls.InkListInkSet.choose.Goals as goal
 
-pub nearest-ink-requires : goal.nearest-ink-requires
-nearest-ink-requires g c =
+pub nearest_ink-requires : goal.nearest_ink-requires
+nearest_ink-requires g c =
     let l : length c.args.wanted ≡ 3 = search rules in
-    (rw c.limit-all-limited.ensures (all_limited c.args.wanted l), c.args.self.now.few)
+    (rw c.limit_all-limited.ensures (all_limited c.args.wanted l), c.args.self.now.few)
 
 pub returns : goal.returns
 returns g c =
@@ -21,9 +21,9 @@ returns g c =
     let same : distance count value (map limited u) ≡ distance count value (values count u) =
     λ i t. same_distance count value (map limited u) (values count u) t
     (λ k p. same_values count u k p (omega (arith, g.met.T.Tone.few))) i in
-    let e : c.nearest-ink.result ≡ nearest_of (distance count value (values count u)) ts =
-    c.nearest-ink.ensures
-    ∙ (ap (λ v. nearest_of (distance count value v) ts) c.limit-all-limited.ensures ∙ ap (λ f. nearest_of f ts) same) in
+    let e : c.nearest_ink.result ≡ nearest_of (distance count value (values count u)) ts =
+    c.nearest_ink.ensures
+    ∙ (ap (λ v. nearest_of (distance count value v) ts) c.limit_all-limited.ensures ∙ ap (λ f. nearest_of f ts) same) in
     record {
       kind = (refl, refl);
       answer = e;

@@ -4,9 +4,9 @@ use Rattle.sheet.proofs.bits.calls.BitSheetSheet.ink_at.Goals as goal
 
 pub bounds-self-at : goal.bounds-self-at
 bounds-self-at c =
-    rw c.row-bytes.ensures
+    rw c.row_bytes.ensures
     (bit_within c.args.row c.args.column c.args.self.now.width c.args.self.now.height (length c.args.self.now.rows.now)
     (omega arith) (omega arith) c.args.self.now.room)
 
 pub returns : goal.returns
-returns c = rw c.row-bytes.ensures (search rules)
+returns c = rw c.row_bytes.ensures (search rules)

@@ -10,27 +10,20 @@ bounds-self-at c =
     let s = c.args.self.now in
     within c.args.row c.args.column s.width s.height (length s.cells.now) (omega arith) (omega arith) s.room
 
-pub invariant-of-self : goal.invariant-of-self
-invariant-of-self c =
+pub invariant_of-self : goal.invariant_of-self
+invariant_of-self c =
     let s = c.args.self.now in
     let r = c.args.row in
     let k = c.args.column in
     let p : r < s.height = omega arith in
     let q : k < s.width = omega arith in
-    let small : c.args.number < 256 = omega arith in (
-      s.wide,
-      (
-        s.high,
-        (
-          rw (length-set s.cells.now (r * s.width + k) c.args.number) s.room,
-          (
-            byte_below s.cells.now s.width s.height r k c.args.number
-                (within r k s.width s.height (length s.cells.now) p q s.room) q small s.below,
-            tt,
-          ),
-        ),
-      ),
-    )
+    let small : c.args.number < 256 = omega arith in record {
+      wide = s.wide;
+      high = s.high;
+      room = rw (length-set s.cells.now (r * s.width + k) c.args.number) s.room;
+      below = byte_below s.cells.now s.width s.height r k c.args.number
+          (within r k s.width s.height (length s.cells.now) p q s.room) q small s.below;
+    }
 
 pub returns : goal.returns
 returns c =
