@@ -6,8 +6,8 @@ use Rattle.netpbm.proofs.fields.field.Goals as goal
 no_field : (bs : List ℕ) (p s : ℕ) → s ≡ after_white bs p → NoNumber bs s → NoField bs p
 no_field bs p s e none = λ v q f. none v q (rw e f.reads)
 
-pub returns-in-err-v : goal.returns-in-err-v
-returns-in-err-v c =
-    let p = err_from_is_err_and c.from-residual-in-err-v.result c.from-residual-in-err-v.ensures.1 in
-    let none = no_field c.args.bytes.now c.args.place.now _ c.in-ok-skip-white.ensures.0 c.in-err-v.ensures.2 in
+pub returns-in_err-v : goal.returns-in_err-v
+returns-in_err-v c =
+    let p = err_from_is_err_and c.from_residual-in_err-v.result c.from_residual-in_err-v.ensures.1 in
+    let none = no_field c.args.bytes.now c.args.place.now _ c.in_ok-skip_white.ensures.0 c.in_err-v.ensures.2 in
     rw (p.1, p.2) (search rules, search rules, none)

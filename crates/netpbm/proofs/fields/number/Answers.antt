@@ -4,7 +4,7 @@ use Rattle.std.proofs.lemmas.List.Sums.{prefix_len-drop_yes, prefix_len-drop_no,
 use Rattle.std.specs.List.{between}
 use Rattle.netpbm.specs.Fields.{digit, decimal_value}
 use Rattle.netpbm.proofs.fields.number.Goals as goal
-use Rattle.netpbm.proofs.fields.number.Goals.{then-loop-end-test+else-is-digit, else-loop-end-test}
+use Rattle.netpbm.proofs.fields.number.Goals.{then-loop-end-test+else-is_digit, else-loop-end-test}
 
 pow_more : (q from : ℕ) → from ≤ q → 10 ^ (q + 1 - from) ≡ 10 ^ (q - from) * 10
 pow_more q from h = let e : q + 1 - from ≡ suc (q - from) = omega arith in rw e (pow-suc 10 (q - from))
@@ -30,13 +30,13 @@ loop-end-preserved c = (
 pub returns-then-end-from : goal.returns-then-end-from
 returns-then-end-from c = λ v q h.
     elim c.loop-end-test.branch [
-      | then-loop-end-test+else-is-digit w ↦ search (rules, prefix_len-drop_no digit)
+      | then-loop-end-test+else-is_digit w ↦ search (rules, prefix_len-drop_no digit)
       | else-loop-end-test w ↦ search (rules, prefix_len-drop_all digit)
     ]
 
 pub returns : goal.returns
 returns c =
     elim c.loop-end-test.branch [
-      | then-loop-end-test+else-is-digit w ↦ search (rules, prefix_len-drop_no digit)
+      | then-loop-end-test+else-is_digit w ↦ search (rules, prefix_len-drop_no digit)
       | else-loop-end-test w ↦ search (rules, prefix_len-drop_all digit)
     ]

@@ -13,28 +13,28 @@ returns-then-bytes-lt-FIELDS c = no_letters (λ l.
       | then-bytes-lt-FIELDS-via-else-bytes-lt-FIELDS+else-bytes-ne80+then-bytes-letter w ↦ w.if-bytes-letter.true l.second
     ])
 
-pub returns-in-err-width : goal.returns-in-err-width
-returns-in-err-width c =
-    let p = err_from_is_err_and c.from-residual.result c.from-residual.ensures.1 in
-    let bad = c.in-err-width.ensures in
+pub returns-in_err-width : goal.returns-in_err-width
+returns-in_err-width c =
+    let p = err_from_is_err_and c.from_residual.result c.from_residual.ensures.1 in
+    let bad = c.in_err-width.ensures in
     rw (p.1, p.2) (width_refused _ _ _ (record { both = search rules; first = search rules; second = search rules }) bad.1 bad.2)
 
-pub returns-in-err-height : goal.returns-in-err-height
-returns-in-err-height c =
-    let p = err_from_is_err_and c.from-residual-in-err-height.result c.from-residual-in-err-height.ensures.1 in
-    let bad = c.in-err-height.ensures in
+pub returns-in_err-height : goal.returns-in_err-height
+returns-in_err-height c =
+    let p = err_from_is_err_and c.from_residual-in_err-height.result c.from_residual-in_err-height.ensures.1 in
+    let bad = c.in_err-height.ensures in
     rw (p.1, p.2)
-    (height_refused _ _ _ _ _ (record { both = search rules; first = search rules; second = search rules }) c.in-ok-width.ensures bad.1 bad.2)
+    (height_refused _ _ _ _ _ (record { both = search rules; first = search rules; second = search rules }) c.in_ok-width.ensures bad.1 bad.2)
 
-pub returns-in-err-maximum-field : goal.returns-in-err-maximum-field
-returns-in-err-maximum-field c =
-    let p = err_from_is_err_and c.from-residual-in-err-maximum-field.result c.from-residual-in-err-maximum-field.ensures.1 in
-    let bad = c.in-err-maximum-field.ensures in
+pub returns-in_err-maximum_field : goal.returns-in_err-maximum_field
+returns-in_err-maximum_field c =
+    let p = err_from_is_err_and c.from_residual-in_err-maximum_field.result c.from_residual-in_err-maximum_field.ensures.1 in
+    let bad = c.in_err-maximum_field.ensures in
     rw (p.1, p.2)
     (maximum_refused _ _ _ _ _ _ _ (record { both = search rules; first = search rules; second = search rules })
-    c.in-ok-width.ensures c.in-ok-height.ensures bad.1 bad.2)
+    c.in_ok-width.ensures c.in_ok-height.ensures bad.1 bad.2)
 
 pub returns : goal.returns
 returns c =
     page (record { both = search rules; first = search rules; second = search rules })
-    c.in-ok-width.ensures c.in-ok-height.ensures c.in-ok-maximum-field.ensures
+    c.in_ok-width.ensures c.in_ok-height.ensures c.in_ok-maximum_field.ensures

@@ -14,5 +14,5 @@ pub loop-column-preserved : goal.loop-column-preserved
 loop-column-preserved g c =
     let p = g.S.Source.page c.args.source.now in
     let wide : c.loop-column.column < p.width = omega (arith, c.width-column-end.ensures) in
-    let here = lack_said p c.args.row c.loop-column.column c.at.result c.requires wide c.at.ensures ∙ ap refusal_of c.in-default.is in
+    let here = lack_said p c.args.row c.loop-column.column c.at.result c.requires wide c.at.ensures ∙ ap refusal_of c.in_default.is in
     first_more _ c.loop-column.column c.loop-column.invariant here
