@@ -7,8 +7,8 @@ use Rattle.samples.proofs.text.push_place.Goals as goal
 pub loop-channel-preserved : goal.loop-channel-preserved
 loop-channel-preserved g c =
     let f : ℕ → List ℕ = sample_text g.T.Tone.count g.T.Tone.value (said c.args.answer.now) in
-    let h : vec_items c.extend-from-slice.new.self ≡ vec_items c.loop-channel.text ++ f c.loop-channel.channel = search rules in
-    joined_more f c.loop-channel.channel (vec_items c.push.new.self) (vec_items c.loop-channel.text) (vec_items c.extend-from-slice.new.self)
+    let h : vec_items c.extend_from_slice.new.self ≡ vec_items c.loop-channel.text ++ f c.loop-channel.channel = search rules in
+    joined_more f c.loop-channel.channel (vec_items c.push.new.self) (vec_items c.loop-channel.text) (vec_items c.extend_from_slice.new.self)
     c.loop-channel.invariant h
 
 pub returns : goal.returns

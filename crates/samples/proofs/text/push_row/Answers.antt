@@ -9,10 +9,10 @@ loop-column-preserved g c =
     let f : ℕ → List ℕ =
     λ k. place_text g.T.Tone.count g.T.Tone.value (answer (g.S.Source.page c.args.page.now) c.args.row k)
     in
-    let h : vec_items c.push-place.new.text ≡ vec_items c.loop-column.text ++ f c.loop-column.column =
+    let h : vec_items c.push_place.new.text ≡ vec_items c.loop-column.text ++ f c.loop-column.column =
     search rules
     in
-    joined_more f c.loop-column.column (vec_items c.args.text.now) (vec_items c.loop-column.text) (vec_items c.push-place.new.text)
+    joined_more f c.loop-column.column (vec_items c.args.text.now) (vec_items c.loop-column.text) (vec_items c.push_place.new.text)
     c.loop-column.invariant h
 
 pub returns : goal.returns

@@ -7,8 +7,8 @@ use Rattle.writer.proofs.raster.put_bits.Goals as goal
 pub loop-row-init : goal.loop-row-init
 loop-row-init g c = put_none c.args.buffer.now c.args.at
 
-pub put-bit-row-place-requires : goal.put-bit-row-place-requires
-put-bit-row-place-requires g c =
+pub put_bit_row-place-requires : goal.put_bit_row-place-requires
+put_bit_row-place-requires g c =
     let m = g.I.InkSet.meaning c.args.inks.now in
     let s = g.S.Sheet.meaning c.args.sheet.now in
     let below : c.loop-row.row < s.height = omega (arith, c.height-row-end.ensures) in
@@ -23,4 +23,4 @@ loop-row-preserved g c =
     let m = g.I.InkSet.meaning c.args.inks.now in
     let s = g.S.Sheet.meaning c.args.sheet.now in
     put_piece (bit_row g.T.Tone.count g.T.Tone.value m s) c.loop-row.row c.args.buffer.now c.args.at _ _ _ _
-    (omega (arith, c.requires)) c.loop-row.invariant c.put-bit-row-place.ensures
+    (omega (arith, c.requires)) c.loop-row.invariant c.put_bit_row-place.ensures

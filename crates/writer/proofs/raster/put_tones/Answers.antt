@@ -6,8 +6,8 @@ use Rattle.writer.proofs.raster.put_tones.Goals as goal
 pub loop-row-init : goal.loop-row-init
 loop-row-init g c = put_none c.args.buffer.now c.args.at
 
-pub put-tone-row-place-requires : goal.put-tone-row-place-requires
-put-tone-row-place-requires g c =
+pub put_tone_row-place-requires : goal.put_tone_row-place-requires
+put_tone_row-place-requires g c =
     let n = g.T.Tone.count in
     let v = g.T.Tone.value in
     let m = g.I.InkSet.meaning c.args.inks.now in
@@ -24,4 +24,4 @@ loop-row-preserved g c =
     let m = g.I.InkSet.meaning c.args.inks.now in
     let s = g.S.Sheet.meaning c.args.sheet.now in
     put_piece (tone_row g.T.Tone.count g.T.Tone.value m s) c.loop-row.row c.args.buffer.now c.args.at _ _ _ _
-    (omega (arith, c.requires)) c.loop-row.invariant c.put-tone-row-place.ensures
+    (omega (arith, c.requires)) c.loop-row.invariant c.put_tone_row-place.ensures

@@ -3,8 +3,8 @@ use Rattle.std.proofs.lemmas.Fmt.{length-decimal-le}
 use Rattle.writer.proofs.Over.{one_long, more_long}
 use Rattle.writer.proofs.text.+digits.Goals as goal
 
-pub overflow-add-result : goal.overflow-add-result
-overflow-add-result t c = search rules
+pub overflow_add-result : goal.overflow_add-result
+overflow_add-result t c = search rules
 
 pub returns-then-n-lt10 : goal.returns-then-n-lt10
 returns-then-n-lt10 t c = record { value = search (rules, one_long); bound = search rules }

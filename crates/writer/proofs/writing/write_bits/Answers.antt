@@ -11,32 +11,32 @@ long : {T : Type 0} (n : ℕ) (value : T → ℕ → ℕ) (m : Inks T) (s : Shee
     → length (bit_raster n value m s) ≡ u * k
 long n value m s v u k wide high bytes = let e = bits_long n value m s in cc
 
-pub returns-then-buffer-header-length : goal.returns-then-buffer-header-length
-returns-then-buffer-header-length g c =
+pub returns-then-buffer-header_length : goal.returns-then-buffer-header_length
+returns-then-buffer-header_length g c =
     let m = g.I.InkSet.meaning c.args.inks.now in
     let s = g.S.Sheet.meaning c.args.sheet.now in
     page_short (codes "P4\n") (codes "\n") (bit_raster g.T.Tone.count g.T.Tone.value m s) c.args.buffer.now s.width s.height _ _ _ _
-    c.width-width.ensures c.height-height.ensures c.header-length.ensures.value
-    (long g.T.Tone.count g.T.Tone.value m s _ _ _ c.width-width.ensures c.height-height.ensures c.row-bytes.ensures)
-    c.if-buffer-header-length.true
+    c.width-width.ensures c.height-height.ensures c.header_length.ensures.value
+    (long g.T.Tone.count g.T.Tone.value m s _ _ _ c.width-width.ensures c.height-height.ensures c.row_bytes.ensures)
+    c.if-buffer-header_length.true
 
-pub put-header-at-requires : goal.put-header-at-requires
-put-header-at-requires g c =
+pub put_header-at-requires : goal.put_header-at-requires
+put_header-at-requires g c =
     let m = g.I.InkSet.meaning c.args.inks.now in
     let s = g.S.Sheet.meaning c.args.sheet.now in
     header_fits (codes "P4\n") (codes "\n") (bit_raster g.T.Tone.count g.T.Tone.value m s) c.args.buffer.now s.width s.height _ _ _ _
-    c.width-width.ensures c.height-height.ensures c.header-length.ensures.value
-    (long g.T.Tone.count g.T.Tone.value m s _ _ _ c.width-width.ensures c.height-height.ensures c.row-bytes.ensures)
-    c.if-buffer-header-length.false
+    c.width-width.ensures c.height-height.ensures c.header_length.ensures.value
+    (long g.T.Tone.count g.T.Tone.value m s _ _ _ c.width-width.ensures c.height-height.ensures c.row_bytes.ensures)
+    c.if-buffer-header_length.false
 
-pub put-bits-requires : goal.put-bits-requires
-put-bits-requires g c =
+pub put_bits-requires : goal.put_bits-requires
+put_bits-requires g c =
     let m = g.I.InkSet.meaning c.args.inks.now in
     let s = g.S.Sheet.meaning c.args.sheet.now in
-    let r = long g.T.Tone.count g.T.Tone.value m s _ _ _ c.width-width.ensures c.height-height.ensures c.row-bytes.ensures in
+    let r = long g.T.Tone.count g.T.Tone.value m s _ _ _ c.width-width.ensures c.height-height.ensures c.row_bytes.ensures in
     let fits = raster_fits (codes "P4\n") (codes "\n") (bit_raster g.T.Tone.count g.T.Tone.value m s) c.args.buffer.now s.width s.height _ _ _ _
-    c.width-width.ensures c.height-height.ensures c.header-length.ensures.value r
-    c.if-buffer-header-length.false _ _ c.put-header-at.ensures in
+    c.width-width.ensures c.height-height.ensures c.header_length.ensures.value r
+    c.if-buffer-header_length.false _ _ c.put_header-at.ensures in
     omega (arith, fits, r, bits_long g.T.Tone.count g.T.Tone.value m s)
 
 pub returns : goal.returns
@@ -44,6 +44,6 @@ returns g c =
     let m = g.I.InkSet.meaning c.args.inks.now in
     let s = g.S.Sheet.meaning c.args.sheet.now in
     page_done (codes "P4\n") (codes "\n") (bit_raster g.T.Tone.count g.T.Tone.value m s) c.args.buffer.now s.width s.height _ _ _ _
-    c.width-width.ensures c.height-height.ensures c.header-length.ensures.value
-    (long g.T.Tone.count g.T.Tone.value m s _ _ _ c.width-width.ensures c.height-height.ensures c.row-bytes.ensures)
-    c.if-buffer-header-length.false _ _ _ _ c.put-header-at.ensures c.put-bits.ensures
+    c.width-width.ensures c.height-height.ensures c.header_length.ensures.value
+    (long g.T.Tone.count g.T.Tone.value m s _ _ _ c.width-width.ensures c.height-height.ensures c.row_bytes.ensures)
+    c.if-buffer-header_length.false _ _ _ _ c.put_header-at.ensures c.put_bits.ensures
