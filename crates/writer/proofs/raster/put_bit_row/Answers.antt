@@ -13,7 +13,7 @@ loop-j-preserved g c =
     let s = g.S.Sheet.meaning c.args.sheet.now in
     let f : ℕ → ℕ = byte_of_row s.width (counted g.T.Tone.count g.T.Tone.value (g.I.InkSet.meaning c.args.inks.now) s) c.args.row in
     ap (λ b. set b (c.args.at + c.loop-j.j) c.row_byte.result) c.loop-j.invariant
-    ∙ byte_more f c.args.buffer.now c.args.at c.loop-j.j c.row_byte.result (omega (arith, c.requires.0, c.row_bytes-bytes.ensures, c.width.ensures)) c.byte_of_row.ensures
+    ∙ byte_more f c.args.buffer.now c.args.at c.loop-j.j c.row_byte.result (omega (arith, c.requires.0, c.row_bytes-bytes.ensures, c.width.ensures)) c.row_byte.ensures
 
 pub returns : goal.returns
 returns g c =
