@@ -1,5 +1,5 @@
 -- Each place printed with the ink nearest to its own tone.
-use Rattle.std.specs.Prelude.{◌≡◌, ℕ, ◌+◌, ◌*◌, ◌<◌, List, map, take, ℤ, pos}
+use Rattle.std.specs.Prelude.{◌≡◌, ℕ, ◌+◌, ◌*◌, ◌<◌, List, map, take, pos}
 use Rattle.ink.specs.Inks.{Inks}
 use Rattle.ink.specs.Values.{values}
 use Rattle.sheet.specs.Meaning.{SheetMeaning}

@@ -1,7 +1,7 @@
 -- The list's search finds the nearest ink.
-use Rattle.std.proofs.Common.{◌≡◌, ℕ, zero, suc, ◌+◌, ◌*◌, ◌<◌, ◌≤◌, max, true, false, cond, ltb, List, [], ◌∷◌, length, get_or, drop, ℤ, pos, ◌-ℤ◌, sym, refl, ap, ◌∙◌, ⊎_elim, add-zero, arith}
+use Rattle.std.proofs.Common.{◌≡◌, ℕ, zero, suc, ◌+◌, ◌*◌, ◌<◌, ◌≤◌, max, cond, ltb, List, [], ◌∷◌, length, get_or, drop, ℤ, pos, ◌-ℤ◌, sym, refl, ap, ◌∙◌, ⊎_elim, add-zero, arith}
 use Rattle.std.proofs.lemmas.List.{drop-drop, drop_more, get_or-drop}
-use Rattle.std.proofs.lemmas.Bool.{cases_Bool, cases_eq, cond_both, cond-false, cond-true, le-ltb, ltb-false, ltb-true}
+use Rattle.std.proofs.lemmas.Bool.{cases_eq, cond_both, cond-false, le-ltb, ltb-false, ltb-true}
 use Rattle.ink.specs.Lists.{ink_list, nearest_of, seek}
 use Rattle.ink.specs.Nearness.{Nearest, channel_weight, distance, squared}
 

@@ -1,5 +1,5 @@
 -- The law of the spread, said of the kind of tone that a set's calls name.
-use Rattle.std.proofs.Common.{◌≡◌, ℕ, ◌<◌, ◌≤◌, List, length, ℤ, Some, sym, arith}
+use Rattle.std.proofs.Common.{◌≡◌, ℕ, ◌<◌, ◌≤◌, List, length, ℤ, Some, sym}
 use Rattle.std.proofs.lemmas.List.{length-map, length-take-le}
 use Rattle.ink.specs.Inks.{Around, Inks, OfKind, Within}
 use Rattle.ink.specs.Values.{limited, values}

@@ -1,9 +1,9 @@
 -- The three laws, at the run that takes a list of tones.
-use Rattle.std.proofs.Common.{◌≡◌, ℕ, zero, suc, ◌-◌, ◌*◌, ◌<◌, ◌≤◌, length, get_or, pos, ◌-ℤ◌, ◌*ℤ◌, Some, refl, arith}
+use Rattle.std.proofs.Common.{◌≡◌, ℕ, zero, suc, ◌*◌, ◌<◌, ◌≤◌, length, get_or, pos, ◌-ℤ◌, ◌*ℤ◌, Some, refl, arith}
 use borrow.Author.Differences.{ints}
 use Rattle.kernel.specs.Rules.{Shape}
 use Rattle.ledger.specs.Page.{Page}
-use Rattle.ledger.specs.Ledger.{Trace, lowest, highest, in_hand, limited, wanted, used, Diffused, taken, laid, carried, edge, kernel, rounding, clipped}
+use Rattle.ledger.specs.Ledger.{Trace, lowest, highest, in_hand, wanted, used, Diffused, taken, laid, carried, edge, kernel, rounding, clipped}
 use Rattle.ledger.specs.Dots.{Setup, Tones, samples, channel, values, ink_of, run}
 use Rattle.ledger.specs.Laws.{Between, Within, Fair, inside, Balanced, ErrorsWithin, RectanglesWithin, Balance, Errors, Rectangles, Guarantee, AimsLater, OneMore}
 use Rattle.ledger.proofs.Sums.{ΣZero}

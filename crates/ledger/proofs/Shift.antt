@@ -1,5 +1,5 @@
 -- A sum over a stretch of whole numbers, against the same sum moved along: the ends differ, and nothing else.
-use Rattle.std.proofs.Common.{◌≡◌, ℕ, zero, suc, ◌+◌, ◌-◌, ◌*◌, ◌<◌, ◌≤◌, ℤ, pos, negsuc, ◌+ℤ◌, ◌-ℤ◌, nat_abs, ap, arith}
+use Rattle.std.proofs.Common.{◌≡◌, ℕ, zero, suc, ◌*◌, ◌≤◌, ℤ, pos, negsuc, ◌+ℤ◌, ◌-ℤ◌, nat_abs, ap, arith}
 use borrow.Author.Differences.{ints}
 use Rattle.ledger.specs.Sums.{Σ<}
 

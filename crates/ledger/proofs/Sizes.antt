@@ -5,7 +5,7 @@ use Rattle.std.proofs.lemmas.Nat.{mul-le}
 use Rattle.kernel.specs.Rules.{Shape, weights}
 use Rattle.ledger.specs.Sums.{Σ<, given}
 use Rattle.ledger.specs.Page.{Page, number, waits, off}
-use Rattle.ledger.specs.Ledger.{Trace, shares, ends_row, in_hand, pending, sum, quotient, remainder, limited, wanted, used, Diffused, carried, edge, rounding}
+use Rattle.ledger.specs.Ledger.{Trace, shares, ends_row, in_hand, pending, sum, quotient, limited, wanted, used, Diffused, carried, edge, rounding}
 use Rattle.ledger.specs.Dots.{samples, channel}
 use Rattle.ledger.specs.Laws.{Between}
 use Rattle.ledger.specs.Memory.{Memory, awaits, Holds, SmallCell, Small, Sizes}

@@ -1,8 +1,8 @@
 -- A field's fault, from what went wrong in it.
-use Rattle.std.proofs.Common.{◌≡◌, ℕ, ◌<◌, ◌≤◌, Bool, true, false, ◌⊎◌, List, length, get_or, Err, sym, refl, ap, ◌∙◌, subst, inl, inr, ⊎_elim, true≢false, arith}
+use Rattle.std.proofs.Common.{◌≡◌, ℕ, ◌<◌, ◌≤◌, true, false, ◌⊎◌, List, length, get_or, Err, sym, refl, ap, ◌∙◌, subst, inl, inr, ⊎_elim, true≢false, arith}
 use Rattle.netpbm.specs.Fields.{white, NoField, after_white}
 use Rattle.netpbm.specs.Fields as fields
-use Rattle.netpbm.specs.Headers.{Lettered, SizeField, SizeRefused, no_field, out_of_range, LastField, MaximumRefused, no_last_field}
+use Rattle.netpbm.specs.Headers.{Lettered, SizeField, SizeRefused, no_field, out_of_range, MaximumRefused, no_last_field}
 use Rattle.netpbm.specs.Headers.{Reading, no_width, no_height, no_maximum}
 use Rattle.netpbm.specs.Refusals.{told, refusal}
 use Rattle.netpbm.specs.declared.fault.PageFault.{PageFault}

@@ -1,12 +1,10 @@
 -- The plainest header is read, and the samples are the bytes after it.
-use Rattle.std.proofs.Common.{◌≡◌, ℕ, ◌+◌, ◌*◌, ◌<◌, ◌≤◌, cond, leb, List, [], ◌∷◌, ◌++◌, length, get_or, Ok, codes, decimal, sym, refl, ap, ◌∙◌, ⊎_elim, append_assoc, arith}
+use Rattle.std.proofs.Common.{◌≡◌, ℕ, ◌+◌, ◌≤◌, leb, List, [], ◌∷◌, ◌++◌, length, get_or, Ok, codes, decimal, sym, refl, ap, ◌∙◌, ⊎_elim, append_assoc, arith}
 use Rattle.std.proofs.lemmas.Bool.{cases_lt, le-leb, lt-leb}
 use Rattle.std.proofs.lemmas.List.{get_or_at, length-append, get_or-append-add}
-use Rattle.source.specs.Pages.{Place, tone, missing}
-use Rattle.source.specs.Faults.{spot_of}
 use Rattle.tone.specs.Channels.{channels_of}
-use Rattle.netpbm.specs.Fields.{white, Field}
-use Rattle.netpbm.specs.Headers.{Lettered, SizeField, LastField, MaximumField, Reading, page, header}
+use Rattle.netpbm.specs.Fields.{Field}
+use Rattle.netpbm.specs.Headers.{Reading, page, header}
 use Rattle.netpbm.specs.Rasters.{raster_place, sample_at}
 use Rattle.netpbm.specs.Plain.{plain_header}
 use Rattle.page_laws.specs.Plain.{PlainPage}

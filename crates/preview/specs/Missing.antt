@@ -1,5 +1,5 @@
 -- The first missing place of a page in reading order.
-use Rattle.std.specs.Prelude.{ℕ, zero, suc, cond, Some, None, Option}
+use Rattle.std.specs.Prelude.{ℕ, zero, suc, Some, None, Option}
 use Rattle.source.specs.declared.fault.Fault.{Fault}
 use Rattle.source.specs.Faults.{Told, told}
 use Rattle.source.specs.Pages.{Page, Place, tone, missing}

@@ -1,7 +1,7 @@
 -- The bits of one byte.
 use Rattle.std.proofs.Common.{◌≡◌, ℕ, zero, suc, ◌+◌, ◌-◌, ◌*◌, ◌/◌, ◌%◌, ◌^◌, ◌<◌, ◌≤◌, Bool, true, cond, ◌&&◌, eqb, refl, ap, ◌∙◌, ⊎_elim, not-suc-le-zero, arith}
 use lib.Bits.{bit_and, bit_or}
-use Rattle.std.proofs.lemmas.Nat.{and_mod, and_shr, mod_below, or_mod, or_shr}
+use Rattle.std.proofs.lemmas.Nat.{and_mod, and_shr, or_mod, or_shr}
 use Rattle.std.proofs.lemmas.Bool.{and_parts, cases_eq, eq-eqb, eqb-true, ne_eqb}
 use Rattle.sheet.specs.Memory.{bit}
 

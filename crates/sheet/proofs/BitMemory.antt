@@ -1,5 +1,5 @@
 -- The memory of a bit sheet.
-use Rattle.std.proofs.Common.{◌≡◌, ℕ, ◌+◌, ◌-◌, ◌*◌, ◌/◌, ◌%◌, ◌^◌, ◌<◌, ◌≤◌, Bool, cond, ◌&&◌, eqb, ltb, List, [], ◌∷◌, ◌++◌, map, length, get_or, take, drop, set, sym, refl, ap, ◌∙◌, ⊎_elim, append_assoc, add-zero, arith}
+use Rattle.std.proofs.Common.{◌≡◌, ℕ, ◌+◌, ◌-◌, ◌*◌, ◌/◌, ◌%◌, ◌<◌, ◌≤◌, cond, ◌&&◌, eqb, ltb, List, [], ◌∷◌, ◌++◌, map, length, get_or, take, drop, set, sym, refl, ap, ◌∙◌, ⊎_elim, append_assoc, add-zero, arith}
 use Rattle.std.proofs.lemmas.Nat.{div-add-mod', div-mul-add, mod-mul-add, mul-add-lt}
 use Rattle.std.proofs.lemmas.List.FromFn.{fill_by_all, get_or-map-range_with_len, length-map-range_with_len, map-range_with_len_more}
 use Rattle.std.proofs.lemmas.List.{drop_at, drop_more, length-set, set_at, get_or_append_left, get_or-set_same, get_or-set_other, get_or-take, length-take-le, take-append-drop}
@@ -8,7 +8,7 @@ use Rattle.std.specs.List.{range_with_len}
 use Rattle.sheet.specs.Laying.{put}
 use Rattle.sheet.specs.Memory.{bit, bit_ink, bit_memory, blank, bit_of_place, byte_of_row, stride}
 use Rattle.sheet.proofs.BitByte.{byte_is, each_bit, sum_small, sum_0, sum_1, sum_2, sum_3, sum_4, sum_5, sum_6, sum_7}
-use Rattle.sheet.proofs.Places.{within, same_row, same_column, row_of, column_of, put_here, put_other, same_made}
+use Rattle.sheet.proofs.Places.{within, same_row, same_column, row_of, put_here, put_other, same_made}
 
 -- a loop that writes f i at each place i
 pub made_more : (f : ℕ → ℕ) (b : List ℕ) (i v : ℕ) → i < length b → v ≡ f i

@@ -7,7 +7,7 @@ use Rattle.std.proofs.lemmas.Bool.{cases_eq, cond_both}
 use Rattle.std.specs.List.{range_with_len}
 use Rattle.sheet.specs.Laying.{put}
 use Rattle.sheet.specs.Memory.{blank, byte_ink, byte_memory}
-use Rattle.sheet.proofs.Places.{within, same_row, same_column, row_of, column_of, put_here, put_other, same_made}
+use Rattle.sheet.proofs.Places.{same_row, same_column, row_of, column_of, put_here, put_other, same_made}
 
 -- writing one byte changes one place
 pub byte_put : (xs : List ℕ) (w r c v i j : ℕ) → r * w + c < length xs → c < w → j < w

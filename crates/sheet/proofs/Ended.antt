@@ -1,5 +1,5 @@
 -- What stands in lent memory when a new sheet was marked, for either way of laying inks in memory.
-use Rattle.std.proofs.Common.{◌≡◌, ℕ, ◌<◌, Bool, true, false, cond, ◌&&◌, eqb, List, drop, sym, refl, ap, ◌∙◌}
+use Rattle.std.proofs.Common.{◌≡◌, ℕ, ◌<◌, Bool, true, false, cond, ◌&&◌, eqb, List, drop, ap, ◌∙◌}
 use Rattle.sheet.specs.Marks.{marked}
 use Rattle.sheet.specs.Memory.{blank}
 

@@ -2,8 +2,8 @@
 use Rattle.std.proofs.Common.{◌≡◌, ℕ, ◌<◌, Bool, true, false, cond, ◌&&◌, eqb, ltb, Ok, Err, Result, sym, refl, ap, ◌∙◌, ⊎_elim, arith}
 use Rattle.std.proofs.lemmas.Bool.{cases_Bool, cond-true, cond-false, and_from, lt-ltb, both_ways}
 use Rattle.sheet.specs.declared.fault.SheetFault.{SheetFault}
-use Rattle.sheet.specs.Laying.{After, Laid, fault_number, laying, numbered, on_sheet, put}
-use Rattle.sheet.specs.Marks.{Marked, marked}
+use Rattle.sheet.specs.Laying.{After, fault_number, laying, numbered, on_sheet, put}
+use Rattle.sheet.specs.Marks.{Marked}
 use Rattle.sheet.specs.Meaning.{SheetMeaning}
 use Rattle.sheet.proofs.Places.{put_other}
 

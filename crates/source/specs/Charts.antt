@@ -1,7 +1,7 @@
 -- The chart: a page whose samples rise from left to right, from 0 to 255.
 use Rattle.std.specs.Prelude.{ℕ, ◌-◌, ◌*◌, ◌/◌, cond, List, nat_le}
 use Rattle.tone.specs.Channels.{channels_of}
-use Rattle.source.specs.Pages.{Page, Place, tone}
+use Rattle.source.specs.Pages.{Page, tone}
 
 -- the sample of column c in a chart of width w
 abbrev pub chart_sample : ℕ → ℕ → ℕ

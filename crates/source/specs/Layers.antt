@@ -1,5 +1,5 @@
 -- Layers: pages made from the page below.
-use Rattle.std.specs.Prelude.{ℕ, ◌+◌, ◌-◌, min, Bool, true, false, cond, List}
+use Rattle.std.specs.Prelude.{ℕ, ◌+◌, ◌-◌, min, Bool, cond, List}
 use Rattle.tone.specs.Channels.{channels_of}
 use Rattle.source.specs.Pages.{Page, Place, tone, missing}
 

@@ -1,5 +1,5 @@
 -- The round trip: each sample of a written page stands where the reader looks for it.
-use Rattle.std.proofs.Common.{◌≡◌, ℕ, zero, suc, ◌+◌, ◌-◌, ◌*◌, ◌<◌, ◌≤◌, true, false, cond, leb, List, ◌++◌, length, get_or, drop, Ok, Err, Result, sym, refl, ap, ◌∙◌, subst, ⊎_elim, true≢false, append_assoc, not-suc-le-zero, mul_assoc, mul_comm, add-mul, add-one, arith}
+use Rattle.std.proofs.Common.{◌≡◌, ℕ, zero, suc, ◌+◌, ◌-◌, ◌*◌, ◌<◌, ◌≤◌, true, leb, List, ◌++◌, length, get_or, drop, Ok, Err, Result, sym, refl, ap, ◌∙◌, subst, ⊎_elim, true≢false, append_assoc, not-suc-le-zero, mul_assoc, mul_comm, add-mul, add-one, arith}
 use Rattle.std.proofs.lemmas.Nat.{mul-add-lt}
 use Rattle.std.proofs.lemmas.List.FromFn.{get_or-map-range_with_len}
 use Rattle.std.proofs.lemmas.List.{length-append, get_or_append_left, get_or-append-add}
@@ -9,12 +9,11 @@ use Rattle.netpbm.specs.Plain.{plain_header}
 use Rattle.netpbm.specs.Rasters.{raster_place, sample_at}
 use Rattle.page_laws.proofs.Plain.{plain_page}
 use Rattle.sheet.specs.Meaning.{SheetMeaning}
-use Rattle.source.specs.Pages.{Place, tone, missing}
-use Rattle.source.specs.Faults.{spot_of}
+use Rattle.source.specs.Pages.{tone}
 use Rattle.tone.specs.Channels.{channels_of}
-use Rattle.writer.specs.Back.{LaidTone, ReadsBack, Back}
+use Rattle.writer.specs.Back.{ReadsBack, Back}
 use Rattle.writer.specs.Buffers.{Wrote}
-use Rattle.writer.specs.Pages.{pieces, bytes_of, tone_bytes, tone_row, tone_raster, tone_page, black_white}
+use Rattle.writer.specs.Pages.{pieces, tone_bytes, tone_row, tone_raster, tone_page, black_white}
 use Rattle.writer.proofs.Over.{pieces_step, pieces_long, bytes_long}
 use Rattle.writer.proofs.Pages.{tones_long}
 

@@ -1,5 +1,5 @@
 -- A page made of a header and a raster, where the code knows the size by values of its own.
-use Rattle.std.proofs.Common.{◌≡◌, ℕ, ◌+◌, ◌*◌, ◌<◌, ◌≤◌, List, ◌++◌, length, Ok, Err, decimal, sym, ap, ◌∙◌, arith}
+use Rattle.std.proofs.Common.{◌≡◌, ℕ, ◌+◌, ◌*◌, ◌<◌, ◌≤◌, List, ◌++◌, length, Ok, Err, decimal, ap, ◌∙◌, arith}
 use Rattle.ink.specs.Inks.{Inks}
 use Rattle.netpbm.specs.Plain.{framed}
 use Rattle.sheet.specs.Meaning.{SheetMeaning}

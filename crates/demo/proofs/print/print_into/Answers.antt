@@ -1,4 +1,4 @@
-use Rattle.std.proofs.Common.{◌≡◌, sym, ap, ◌∙◌, rules}
+use Rattle.std.proofs.Common.{rules}
 use Rattle.demo.proofs.Prints.{taken_page}
 use Rattle.demo.proofs.print.print_into.Goals as goal
 

@@ -1,4 +1,4 @@
-use Rattle.std.proofs.Common.{◌≡◌, length, vec_len, ◌∙◌, arith}
+use Rattle.std.proofs.Common.{◌≡◌, length, vec_len, ◌∙◌}
 use Rattle.demo.proofs.Prints.{refill_front}
 use Rattle.demo.proofs.print.print_page.Goals as goal
 

@@ -1,4 +1,4 @@
-use Rattle.std.proofs.Common.{◌≡◌, ◌+◌, ◌*◌, ◌<◌, ◌≤◌, get_or, pos, ◌-ℤ◌, nat_abs, ◌≤ℤ◌, ◌∙◌, arith}
+use Rattle.std.proofs.Common.{◌≡◌, ◌<◌, ◌≤◌, get_or, pos, ◌-ℤ◌, nat_abs, ◌≤ℤ◌, ◌∙◌, arith}
 use Rattle.ink.specs.Values.{highest, lowest}
 use Rattle.ink.proofs.Distance.{difference_small, distance_more, in_32_bits, sum_small}
 use Rattle.ink.proofs.nearness.distance_to.Goals as goal

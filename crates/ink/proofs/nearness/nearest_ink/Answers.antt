@@ -1,7 +1,7 @@
-use Rattle.std.proofs.Common.{◌≡◌, ℕ, ◌+◌, cond, ltb, get_or, drop, sym, ap, ◌∙◌, arith, rules}
+use Rattle.std.proofs.Common.{◌≡◌, ◌+◌, cond, ltb, get_or, drop, sym, ap, ◌∙◌, arith}
 use Rattle.std.proofs.lemmas.List.{drop_all}
 use Rattle.std.proofs.lemmas.Bool.{cond-false, cond-true, le-ltb, lt-ltb}
-use Rattle.ink.specs.Lists.{nearest_of, seek}
+use Rattle.ink.specs.Lists.{seek}
 use Rattle.ink.specs.Nearness.{distance}
 use Rattle.ink.proofs.ListNearest.{seek_more, seek_start}
 use Rattle.ink.proofs.nearness.nearest_ink.Goals as goal

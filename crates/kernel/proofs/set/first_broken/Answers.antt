@@ -1,4 +1,4 @@
-use Rattle.std.proofs.Common.{◌≡◌, rules}
+use Rattle.std.proofs.Common.{rules}
 use Rattle.std.proofs.lemmas.List.{at_drop_all}
 use Rattle.kernel.specs.Rules.{first_bad}
 use Rattle.kernel.proofs.Walks.{walk_on, walk_stops}

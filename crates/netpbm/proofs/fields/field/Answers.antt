@@ -1,6 +1,6 @@
 use Rattle.std.proofs.Common.{◌≡◌, ℕ, List, rules}
 use Rattle.std.proofs.lemmas.Result.{err_from_is_err_and}
-use Rattle.netpbm.specs.Fields.{Field, NoNumber, NoField, after_white}
+use Rattle.netpbm.specs.Fields.{NoNumber, NoField, after_white}
 use Rattle.netpbm.proofs.fields.field.Goals as goal
 
 no_field : (bs : List ℕ) (p s : ℕ) → s ≡ after_white bs p → NoNumber bs s → NoField bs p

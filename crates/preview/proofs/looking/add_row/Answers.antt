@@ -1,4 +1,4 @@
-use Rattle.std.proofs.Common.{◌≡◌, ℕ, min, [], ◌∷◌, ◌++◌, string_bytes, sym, ap, ◌∙◌, append_assoc, arith, lit<}
+use Rattle.std.proofs.Common.{◌≡◌, ℕ, min, string_bytes, arith, lit<}
 use Rattle.source.specs.Pages.{answer}
 use Rattle.preview.specs.Marks.{mark_told}
 use Rattle.preview.proofs.Pictures.{marks_more, row_ends}

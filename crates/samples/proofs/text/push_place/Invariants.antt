@@ -1,4 +1,4 @@
-use Rattle.std.proofs.Common.{◌≡◌, [], ◌∷◌, ◌++◌, vec_items}
+use Rattle.std.proofs.Common.{◌≡◌, ◌++◌, vec_items}
 use Rattle.source.specs.Faults.{said}
 use Rattle.samples.specs.Texts.{joined, sample_text}
 use Rattle.samples.proofs.text.push_place.Given as goal

@@ -1,4 +1,4 @@
-use Rattle.std.proofs.Common.{◌≡◌, ℕ, ◌+◌, length, set, ap, ◌∙◌, arith}
+use Rattle.std.proofs.Common.{◌≡◌, ℕ, ◌+◌, set, ap, ◌∙◌, arith}
 use Rattle.sheet.specs.Memory.{byte_of_row, stride}
 use Rattle.writer.specs.Buffers.{over}
 use Rattle.writer.specs.Pages.{bytes_of, counted}

@@ -1,4 +1,4 @@
-use Rattle.std.proofs.Common.{◌+◌, length, set, ap, ◌∙◌, arith}
+use Rattle.std.proofs.Common.{◌+◌, set, ap, ◌∙◌, arith}
 use Rattle.writer.specs.Buffers.{over}
 use Rattle.writer.specs.Pages.{bytes_of}
 use Rattle.writer.proofs.Over.{over_none, byte_more, bytes_long}

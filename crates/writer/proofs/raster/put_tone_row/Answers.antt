@@ -1,4 +1,4 @@
-use Rattle.std.proofs.Common.{◌≡◌, ◌<◌, ◌≤◌, length, ap, ◌∙◌, arith}
+use Rattle.std.proofs.Common.{◌≡◌, ◌<◌, length, ap, ◌∙◌, arith}
 use Rattle.ink.specs.Inks.{ink_tone}
 use Rattle.writer.specs.Pages.{bytes_of, tone_bytes}
 use Rattle.writer.proofs.Over.{put_none, put_as, put_piece, bytes_long, room}

@@ -1,4 +1,4 @@
-use Rattle.std.proofs.Common.{◌≡◌, ◌*◌, ◌<◌, length, arith, rules}
+use Rattle.std.proofs.Common.{◌≡◌, ◌*◌, ◌<◌, length, arith}
 use Rattle.writer.specs.Pages.{tone_bytes, tone_row}
 use Rattle.writer.proofs.Over.{put_none, put_piece, pieces_long, bytes_long, room}
 use Rattle.writer.proofs.raster.put_tones.Goals as goal

@@ -1,4 +1,4 @@
-use Rattle.std.proofs.Common.{sym, ◌∙◌, rules}
+use Rattle.std.proofs.Common.{sym, ◌∙◌}
 use Rattle.writer.specs.Refusals.{numbered}
 use Rattle.writer.proofs.Back.{back_after, back_none}
 use Rattle.writer.proofs.writing.write.Goals as goal

@@ -1,4 +1,4 @@
-use Rattle.std.proofs.Common.{◌≡◌, ℕ, ◌+◌, ◌*◌, ◌≤◌, ◌∷◌, length, codes, sym, ap, ◌∙◌, arith}
+use Rattle.std.proofs.Common.{◌≡◌, ℕ, ◌*◌, ◌∷◌, length, codes, arith}
 use Rattle.ink.specs.Inks.{Inks}
 use Rattle.sheet.specs.Meaning.{SheetMeaning}
 use Rattle.writer.specs.Pages.{tone_raster}

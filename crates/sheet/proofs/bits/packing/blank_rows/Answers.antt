@@ -1,4 +1,4 @@
-use Rattle.std.proofs.Common.{◌*◌, ◌/◌, ◌%◌, ◌<◌, set, ap, ◌∙◌, arith}
+use Rattle.std.proofs.Common.{◌/◌, ◌%◌, set, ap, ◌∙◌, arith}
 use Rattle.sheet.specs.Memory.{blank, byte_of_row, stride}
 use Rattle.sheet.proofs.BitMemory.{made_more}
 use Rattle.sheet.proofs.bits.packing.blank_rows.Goals as goal

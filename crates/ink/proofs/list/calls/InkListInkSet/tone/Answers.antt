@@ -1,5 +1,4 @@
-use Rattle.std.proofs.Common.{◌≡◌, [], refl, arith, rules}
-use Rattle.std.proofs.lemmas.List.{nil_from_length}
+use Rattle.std.proofs.Common.{refl, arith}
 use Rattle.ink.proofs.ListNearest.{dark_tone}
 use Rattle.ink.proofs.list.calls.InkListInkSet.tone.Goals as goal
 
