@@ -21,37 +21,28 @@ pub(crate) struct Table {
     pub(crate) taps: [Tap; MOST_TAPS],
 }
 
+// A tap: rows down, columns ahead, weight.
+macro_rules! tap {
+    ($down:expr, $ahead:expr, $weight:expr) => {
+        Tap {
+            down: $down,
+            ahead: $ahead,
+            weight: $weight,
+        }
+    };
+}
+
 // Fills the places past the last tap.
-pub(crate) const UNUSED: Tap = Tap {
-    down: 0,
-    ahead: 1,
-    weight: 1,
-};
+pub(crate) const UNUSED: Tap = tap!(0, 1, 1);
 
 pub(crate) const FLOYD: Table = Table {
     divisor: 16,
     len: 4,
     taps: [
-        Tap {
-            down: 0,
-            ahead: 1,
-            weight: 7,
-        },
-        Tap {
-            down: 1,
-            ahead: -1,
-            weight: 3,
-        },
-        Tap {
-            down: 1,
-            ahead: 0,
-            weight: 5,
-        },
-        Tap {
-            down: 1,
-            ahead: 1,
-            weight: 1,
-        },
+        tap!(0, 1, 7),
+        tap!(1, -1, 3),
+        tap!(1, 0, 5),
+        tap!(1, 1, 1),
         UNUSED,
         UNUSED,
         UNUSED,
@@ -67,66 +58,18 @@ pub(crate) const JARVIS: Table = Table {
     divisor: 48,
     len: 12,
     taps: [
-        Tap {
-            down: 0,
-            ahead: 1,
-            weight: 7,
-        },
-        Tap {
-            down: 0,
-            ahead: 2,
-            weight: 5,
-        },
-        Tap {
-            down: 1,
-            ahead: -2,
-            weight: 3,
-        },
-        Tap {
-            down: 1,
-            ahead: -1,
-            weight: 5,
-        },
-        Tap {
-            down: 1,
-            ahead: 0,
-            weight: 7,
-        },
-        Tap {
-            down: 1,
-            ahead: 1,
-            weight: 5,
-        },
-        Tap {
-            down: 1,
-            ahead: 2,
-            weight: 3,
-        },
-        Tap {
-            down: 2,
-            ahead: -2,
-            weight: 1,
-        },
-        Tap {
-            down: 2,
-            ahead: -1,
-            weight: 3,
-        },
-        Tap {
-            down: 2,
-            ahead: 0,
-            weight: 5,
-        },
-        Tap {
-            down: 2,
-            ahead: 1,
-            weight: 3,
-        },
-        Tap {
-            down: 2,
-            ahead: 2,
-            weight: 1,
-        },
+        tap!(0, 1, 7),
+        tap!(0, 2, 5),
+        tap!(1, -2, 3),
+        tap!(1, -1, 5),
+        tap!(1, 0, 7),
+        tap!(1, 1, 5),
+        tap!(1, 2, 3),
+        tap!(2, -2, 1),
+        tap!(2, -1, 3),
+        tap!(2, 0, 5),
+        tap!(2, 1, 3),
+        tap!(2, 2, 1),
     ],
 };
 
@@ -134,56 +77,16 @@ pub(crate) const SIERRA3: Table = Table {
     divisor: 32,
     len: 10,
     taps: [
-        Tap {
-            down: 0,
-            ahead: 1,
-            weight: 5,
-        },
-        Tap {
-            down: 0,
-            ahead: 2,
-            weight: 3,
-        },
-        Tap {
-            down: 1,
-            ahead: -2,
-            weight: 2,
-        },
-        Tap {
-            down: 1,
-            ahead: -1,
-            weight: 4,
-        },
-        Tap {
-            down: 1,
-            ahead: 0,
-            weight: 5,
-        },
-        Tap {
-            down: 1,
-            ahead: 1,
-            weight: 4,
-        },
-        Tap {
-            down: 1,
-            ahead: 2,
-            weight: 2,
-        },
-        Tap {
-            down: 2,
-            ahead: -1,
-            weight: 2,
-        },
-        Tap {
-            down: 2,
-            ahead: 0,
-            weight: 3,
-        },
-        Tap {
-            down: 2,
-            ahead: 1,
-            weight: 2,
-        },
+        tap!(0, 1, 5),
+        tap!(0, 2, 3),
+        tap!(1, -2, 2),
+        tap!(1, -1, 4),
+        tap!(1, 0, 5),
+        tap!(1, 1, 4),
+        tap!(1, 2, 2),
+        tap!(2, -1, 2),
+        tap!(2, 0, 3),
+        tap!(2, 1, 2),
         UNUSED,
         UNUSED,
     ],
@@ -193,41 +96,13 @@ pub(crate) const SIERRA2: Table = Table {
     divisor: 16,
     len: 7,
     taps: [
-        Tap {
-            down: 0,
-            ahead: 1,
-            weight: 4,
-        },
-        Tap {
-            down: 0,
-            ahead: 2,
-            weight: 3,
-        },
-        Tap {
-            down: 1,
-            ahead: -2,
-            weight: 1,
-        },
-        Tap {
-            down: 1,
-            ahead: -1,
-            weight: 2,
-        },
-        Tap {
-            down: 1,
-            ahead: 0,
-            weight: 3,
-        },
-        Tap {
-            down: 1,
-            ahead: 1,
-            weight: 2,
-        },
-        Tap {
-            down: 1,
-            ahead: 2,
-            weight: 1,
-        },
+        tap!(0, 1, 4),
+        tap!(0, 2, 3),
+        tap!(1, -2, 1),
+        tap!(1, -1, 2),
+        tap!(1, 0, 3),
+        tap!(1, 1, 2),
+        tap!(1, 2, 1),
         UNUSED,
         UNUSED,
         UNUSED,
@@ -240,21 +115,9 @@ pub(crate) const SIERRA1: Table = Table {
     divisor: 4,
     len: 3,
     taps: [
-        Tap {
-            down: 0,
-            ahead: 1,
-            weight: 2,
-        },
-        Tap {
-            down: 1,
-            ahead: -1,
-            weight: 1,
-        },
-        Tap {
-            down: 1,
-            ahead: 0,
-            weight: 1,
-        },
+        tap!(0, 1, 2),
+        tap!(1, -1, 1),
+        tap!(1, 0, 1),
         UNUSED,
         UNUSED,
         UNUSED,
@@ -271,36 +134,12 @@ pub(crate) const ATKINSON: Table = Table {
     divisor: 8,
     len: 6,
     taps: [
-        Tap {
-            down: 0,
-            ahead: 1,
-            weight: 1,
-        },
-        Tap {
-            down: 0,
-            ahead: 2,
-            weight: 1,
-        },
-        Tap {
-            down: 1,
-            ahead: -1,
-            weight: 1,
-        },
-        Tap {
-            down: 1,
-            ahead: 0,
-            weight: 1,
-        },
-        Tap {
-            down: 1,
-            ahead: 1,
-            weight: 1,
-        },
-        Tap {
-            down: 2,
-            ahead: 0,
-            weight: 1,
-        },
+        tap!(0, 1, 1),
+        tap!(0, 2, 1),
+        tap!(1, -1, 1),
+        tap!(1, 0, 1),
+        tap!(1, 1, 1),
+        tap!(2, 0, 1),
         UNUSED,
         UNUSED,
         UNUSED,

@@ -13,7 +13,7 @@ fn a_row_of_three(rt: HostRuntime) -> Result<(), Fail> {
     let _ = sheet.lay(0, 1, 1);
     let length = write::<Grey, GreyLevels, BitSheet>(&GreyLevels::new(2), &sheet, &mut page)?;
     assert_eq!(rt; length, 8);
-    assert_eq!(rt; &page[0..10], b"P4\n3 1\n\xa0\x07\x07");
+    assert_eq!(rt; &page[0..10], b"P4\n3 1\n\xa0\x07\x07".as_slice());
     Ok(())
 }
 
@@ -27,7 +27,7 @@ fn numbers_past_the_inks(rt: HostRuntime) -> Result<(), Fail> {
     let _ = sheet.lay(0, 2, 255);
     let length = write::<Grey, GreyLevels, ByteSheet>(&GreyLevels::new(2), &sheet, &mut page)?;
     assert_eq!(rt; length, 8);
-    assert_eq!(rt; &page[0..8], b"P4\n3 1\n\x60");
+    assert_eq!(rt; &page[0..8], b"P4\n3 1\n\x60".as_slice());
     Ok(())
 }
 
@@ -41,6 +41,6 @@ fn a_list_of_black_and_white(rt: HostRuntime) -> Result<(), Fail> {
     let _ = sheet.lay(1, 0, 1);
     let length = write::<Grey, InkList<Grey>, ByteSheet>(&InkList::new(&inks), &sheet, &mut page)?;
     assert_eq!(rt; length, 11);
-    assert_eq!(rt; &page[0..11], b"P4\n9 2\n\xff\x00\x7f\x80");
+    assert_eq!(rt; &page[0..11], b"P4\n9 2\n\xff\x00\x7f\x80".as_slice());
     Ok(())
 }

@@ -15,7 +15,7 @@ fn grey_levels(rt: HostRuntime) -> Result<(), Fail> {
     let _ = sheet.lay(0, 2, 4);
     let length = write::<Grey, GreyLevels, ByteSheet>(&GreyLevels::new(4), &sheet, &mut page)?;
     assert_eq!(rt; length, 14);
-    assert_eq!(rt; &page[0..16], b"P5\n3 1\n255\n\x55\xff\x00\x07\x07");
+    assert_eq!(rt; &page[0..16], b"P5\n3 1\n255\n\x55\xff\x00\x07\x07".as_slice());
     Ok(())
 }
 
@@ -32,7 +32,7 @@ fn colour_list(rt: HostRuntime) -> Result<(), Fail> {
         &mut page,
     )?;
     assert_eq!(rt; length, 17);
-    assert_eq!(rt; &page[0..17], b"P6\n1 2\n255\n\x01\x02\x03\xfa\x00\x09");
+    assert_eq!(rt; &page[0..17], b"P6\n1 2\n255\n\x01\x02\x03\xfa\x00\x09".as_slice());
     Ok(())
 }
 
@@ -59,6 +59,6 @@ fn no_sheet(rt: HostRuntime) -> Result<(), Fail> {
     let sheet = ByteSheet::new(&mut memory, 2, 1);
     let length = write::<Grey, GreyLevels, ByteSheet>(&GreyLevels::new(4), &sheet, &mut page)?;
     assert_eq!(rt; length, 11);
-    assert_eq!(rt; &page[0..12], b"P5\n0 0\n255\n\x09");
+    assert_eq!(rt; &page[0..12], b"P5\n0 0\n255\n\x09".as_slice());
     Ok(())
 }
