@@ -2,13 +2,14 @@
 PAGE ?= samples/grain.pgm
 OUT ?=
 
-demo: target/bin/demo
-	target/bin/demo $(OUT) < $(PAGE)
+demo: crates/demo/out/demo
+	crates/demo/out/demo $(OUT) < $(PAGE)
 
-target/bin/demo:
-	rt check demo
+# Proves, compiles and links the program; rt runs it once, on the page of the gate.
+crates/demo/out/demo:
+	cd crates/demo && rt run < stdin > /dev/null
 
 test:
 	.ci/run
 
-.PHONY: demo test target/bin/demo
+.PHONY: demo test crates/demo/out/demo

@@ -1,7 +1,7 @@
 #!/usr/bin/env python3
 """Pages that `demo` writes, read by Netpbm and by ImageMagick: python3 tools/check_written.py
 
-Needs target/bin/demo (rt check demo) and Debian's packages netpbm and imagemagick. Each sample page is printed with
+Needs crates/demo/out/demo (make demo) and Debian's packages netpbm and imagemagick. Each sample page is printed with
 several numbers of levels; what the two tools read is compared with samples that are worked out here.
 """
 import re
@@ -53,7 +53,7 @@ with tempfile.TemporaryDirectory() as folder:
     for sample, steps in [("grain.pgm", s) for s in (2, 4, 6, 16, 256)] + [("board.ppm", s) for s in (2, 4, 6)]:
         data = (root / "samples" / sample).read_bytes()
         path = str(Path(folder) / "page")
-        run([str(root / "target/bin/demo"), path, str(steps)], input=data)
+        run([str(root / "crates/demo/out/demo"), path, str(steps)], input=data)
         n, wide, high, samples = expected(data, steps)
         letters = Path(path).read_bytes()[:2].decode()
         for name, reader in (("netpbm", by_netpbm), ("imagemagick", by_imagemagick)):

@@ -1,11 +1,11 @@
 #!/usr/bin/env python3
-"""Plants the bugs of tools/bugs.txt, one at a time, each in a copy of the repository, and asks the prover.
+"""Plants the bugs of tools/bugs.txt, one at a time, in a copy of the repository, and asks the prover.
 
     python3 tools/plant.py            all of them
     python3 tools/plant.py CRATE ..   those of some crates
 
 Prints a row of a table for each: refused, with the functions that are then not proved, or SURVIVED. Exit status 1 if
-one survived or could not be planted. It uses the repository's target/ where there is one, which makes it fast.
+one survived or could not be planted.
 """
 import re
 import shutil
@@ -24,7 +24,7 @@ def bugs():
 
 
 def judge(copy, crate):
-    run = subprocess.run(["rt", "dev", crate], cwd=copy, capture_output=True, text=True, errors="replace")
+    run = subprocess.run(["rt", "check"], cwd=copy / "crates" / crate, capture_output=True, text=True, errors="replace")
     out = run.stdout + run.stderr
     bad = re.findall(r"^fn (\S+): (?:no proof|not proved)", out, re.M)
     errors = re.findall(r"error(?:\[[\w-]+\])?: .*", out)
@@ -38,12 +38,12 @@ def judge(copy, crate):
 def main():
     wanted = set(sys.argv[1:])
     worst = 0
-    for crate, name, old, new, what in bugs():
-        if wanted and crate not in wanted:
-            continue
-        with tempfile.TemporaryDirectory() as folder:
-            copy = Path(folder) / "copy"
-            shutil.copytree(root, copy, ignore=shutil.ignore_patterns(".git"))
+    with tempfile.TemporaryDirectory() as folder:
+        copy = Path(folder) / "copy"
+        shutil.copytree(root, copy, ignore=shutil.ignore_patterns(".git", "out"))
+        for crate, name, old, new, what in bugs():
+            if wanted and crate not in wanted:
+                continue
             file = copy / "crates" / crate / name
             text = file.read_text()
             if text.count(old) != 1:
@@ -52,6 +52,7 @@ def main():
                 continue
             file.write_text(text.replace(old, new))
             verdict, where = judge(copy, crate)
+            file.write_text(text)
             worst |= verdict == "SURVIVED"
             print(f"| {crate} | {what} | {verdict} | {where} |", flush=True)
     return worst

@@ -1,5 +1,5 @@
 // Sets of levels: n steps in each channel, `gap` apart, from 0 to 255. A set with another number of steps than those
-// listed in `grey-steps` and `colour-steps` never exists.
+// listed in `grey_steps` and `colour_steps` never exists.
 ghost use Rattle.std.specs.Prelude.{◌≡◌, true};
 ghost use Rattle.ink.specs.LevelRules.{colour_steps, gap_of, grey_steps};
 

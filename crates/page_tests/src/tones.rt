@@ -1,6 +1,6 @@
 // What the two kinds are as tones.
 ghost use Rattle.page_tests.specs.Kinds.{pair_value, pair_made, marked_value, marked_made};
-ghost use Rattle.std.proofs.Common.{rules, arith};
+ghost use Rattle.std.proofs.Common.{rules};
 
 use crate::kinds::{Marked, Pair};
 use tone::Tone;
@@ -12,13 +12,13 @@ impl Tone for Pair {
 
     ghost made = { pair_made };
 
-    ghost some = { first_of (Prim.search rules, Prim.grind (arith, Self.row.coded.inj)) };
+    ghost some = { Prim.search rules };
 
-    ghost few = { first_of (Prim.search rules, Prim.grind (arith, Self.row.coded.inj)) };
+    ghost few = { Prim.search rules };
 
-    ghost byte = { first_of (Prim.search rules, Prim.grind (arith, Self.row.coded.inj)) };
+    ghost byte = { Prim.search rules };
 
-    ghost gives = { first_of (Prim.search rules, Prim.grind (arith, Self.row.coded.inj)) };
+    ghost gives = { Prim.search rules };
 
     fn channels() -> usize {
         2
@@ -47,13 +47,13 @@ impl Tone for Marked {
 
     ghost made = { marked_made };
 
-    ghost some = { first_of (Prim.search rules, Prim.grind (arith, Self.row.coded.inj)) };
+    ghost some = { Prim.search rules };
 
-    ghost few = { first_of (Prim.search rules, Prim.grind (arith, Self.row.coded.inj)) };
+    ghost few = { Prim.search rules };
 
-    ghost byte = { first_of (Prim.search rules, Prim.grind (arith, Self.row.coded.inj)) };
+    ghost byte = { Prim.search rules };
 
-    ghost gives = { first_of (Prim.search rules, Prim.grind (arith, Self.row.coded.inj)) };
+    ghost gives = { Prim.search rules };
 
     fn channels() -> usize {
         1

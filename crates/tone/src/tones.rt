@@ -1,7 +1,7 @@
 // The interface of a kind of tone, and its two kinds here.
 ghost use Rattle.std.specs.Prelude.{List, ◌≡◌, ℕ, ◌<◌, ◌≤◌, get_or};
 ghost use Rattle.tone.specs.Kinds.{grey_value, grey_made, colour_value, colour_made};
-ghost use Rattle.std.proofs.Common.{rules, arith};
+ghost use Rattle.std.proofs.Common.{rules};
 
 use crate::kinds::{Colour, Grey};
 
@@ -39,13 +39,13 @@ impl Tone for Grey {
 
     ghost made = { grey_made };
 
-    ghost some = { first_of (Prim.search rules, Prim.grind (arith, Self.row.coded.inj)) };
+    ghost some = { Prim.search rules };
 
-    ghost few = { first_of (Prim.search rules, Prim.grind (arith, Self.row.coded.inj)) };
+    ghost few = { Prim.search rules };
 
-    ghost byte = { first_of (Prim.search rules, Prim.grind (arith, Self.row.coded.inj)) };
+    ghost byte = { Prim.search rules };
 
-    ghost gives = { first_of (Prim.search rules, Prim.grind (arith, Self.row.coded.inj)) };
+    ghost gives = { Prim.search rules };
 
     fn channels() -> usize {
         1
@@ -70,13 +70,13 @@ impl Tone for Colour {
 
     ghost made = { colour_made };
 
-    ghost some = { first_of (Prim.search rules, Prim.grind (arith, Self.row.coded.inj)) };
+    ghost some = { Prim.search rules };
 
-    ghost few = { first_of (Prim.search rules, Prim.grind (arith, Self.row.coded.inj)) };
+    ghost few = { Prim.search rules };
 
-    ghost byte = { first_of (Prim.search rules, Prim.grind (arith, Self.row.coded.inj)) };
+    ghost byte = { Prim.search rules };
 
-    ghost gives = { first_of (Prim.search rules, Prim.grind (arith, Self.row.coded.inj)) };
+    ghost gives = { Prim.search rules };
 
     fn channels() -> usize {
         3

@@ -15,7 +15,10 @@ fn grey_levels(rt: HostRuntime) -> Result<(), Fail> {
     let _ = sheet.lay(0, 2, 4);
     let length = write::<Grey, GreyLevels, ByteSheet>(&GreyLevels::new(4), &sheet, &mut page)?;
     assert_eq!(rt; length, 14);
-    assert_eq!(rt; &page[0..16], b"P5\n3 1\n255\n\x55\xff\x00\x07\x07".as_slice());
+    assert_eq!(rt;
+        &page[0..16],
+        b"P5\n3 1\n255\n\x55\xff\x00\x07\x07".as_slice()
+    );
     Ok(())
 }
 
@@ -32,7 +35,10 @@ fn colour_list(rt: HostRuntime) -> Result<(), Fail> {
         &mut page,
     )?;
     assert_eq!(rt; length, 17);
-    assert_eq!(rt; &page[0..17], b"P6\n1 2\n255\n\x01\x02\x03\xfa\x00\x09".as_slice());
+    assert_eq!(rt;
+        &page[0..17],
+        b"P6\n1 2\n255\n\x01\x02\x03\xfa\x00\x09".as_slice()
+    );
     Ok(())
 }
 
