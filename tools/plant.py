@@ -4,8 +4,8 @@
     python3 tools/plant.py            all of them
     python3 tools/plant.py CRATE ..   those of some crates
 
-Prints a row of a table for each: refused, with the functions that are then not proved, or SURVIVED. Exit status 1 if
-one survived or could not be planted.
+Prints a row of a table for each: refused, with the functions that are then not proved, SURVIVED, or NOT CHECKED where the
+prover gave no verdict, as on code that is no longer Rattle. Exit status 1 unless all are refused.
 """
 import re
 import shutil
@@ -30,6 +30,8 @@ def judge(copy, crate):
     errors = re.findall(r"error(?:\[[\w-]+\])?: .*", out)
     if run.returncode == 0 and "logic=proved" in out:
         return "SURVIVED", ""
+    if "logic=not-proved" not in out:
+        return "NOT CHECKED", (errors[0] if errors else "no verdict")[:120]
     # of the functions that fail, those that do so by themselves
     own = [f for f in bad if not re.search(re.escape(f) + r": (?:no proof|not proved)[^\n]*it calls", out)] or bad
     return "refused", ", ".join(own[:3]) if own else (errors[0] if errors else "no verdict")[:120]
@@ -53,7 +55,7 @@ def main():
             file.write_text(text.replace(old, new))
             verdict, where = judge(copy, crate)
             file.write_text(text)
-            worst |= verdict == "SURVIVED"
+            worst |= verdict != "refused"
             print(f"| {crate} | {what} | {verdict} | {where} |", flush=True)
     return worst
 
