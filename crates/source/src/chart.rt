@@ -5,6 +5,7 @@ ghost use Rattle.source.specs.Charts.{chart_sample, chart_page};
 
 use crate::fault::{Fault, Spot};
 use crate::sources::Source;
+use std::array;
 use std::marker::PhantomData;
 use tone::Tone;
 
@@ -35,7 +36,7 @@ fn sample(width: u16, column: usize) -> u8
     if width <= 1 {
         0
     } else {
-        (255 * column / (width as usize - 1)) as u8
+        (255 * column / (usize::from(width) - 1)) as u8
     }
 }
 
@@ -43,11 +44,7 @@ fn sample(width: u16, column: usize) -> u8
 fn uniform<T: Tone>(value: u8) -> T
     ensures { result ≡ T.Tone.made (channels_of T.Tone.count (λ i. value)) }
 {
-    let mut values = [0u8; 3];
-    for i in 0..T::channels() {
-        values[i] = value;
-    }
-    T::build(values)
+    T::build(array::from_fn(|i| { if i < T::channels() { value } else { 0 } }))
 }
 
 impl<T: Tone> Source<T> for Chart<T> {
@@ -66,13 +63,12 @@ impl<T: Tone> Source<T> for Chart<T> {
     }
 
     fn at(&self, row: usize, column: usize) -> Result<T, Fault> {
-        if row >= self.height as usize || column >= self.width as usize {
-            return Err(Fault::Outside(Spot {
-                layer: 0,
-                row,
-                column,
-            }));
-        }
+        let spot = Spot {
+            layer: 0,
+            row,
+            column,
+        };
+        spot.on_page(self.width, self.height)?;
         Ok(uniform(sample(self.width, column)))
     }
 }

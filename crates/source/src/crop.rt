@@ -7,27 +7,26 @@ use crate::layer::layer_above;
 use crate::sources::Source;
 use tone::Tone;
 
+// `height` rows and `width` columns from row `top` and column `left` on.
+#[derive(Clone, Copy, PartialEq, Eq, Debug)]
+pub struct Window {
+    pub top: usize,
+    pub left: usize,
+    pub height: usize,
+    pub width: usize,
+}
+
 #[derive(Drop)]
 pub struct Crop<S> {
     below: S,
-    top: usize,
-    left: usize,
-    height: usize,
-    width: usize,
+    window: Window,
 }
 
 impl<S> Crop<S> {
-    // The window of `height` rows and `width` columns at row `top` and column `left`.
-    pub fn new(below: S, top: usize, left: usize, height: usize, width: usize) -> Self
-        ensures { (result.below ≡ below) × (result.top ≡ top) × (result.left ≡ left) × (result.height ≡ height) × (result.width ≡ width) }
+    pub fn new(below: S, window: Window) -> Self
+        ensures { (result.below ≡ below) × (result.window ≡ window) }
     {
-        Crop {
-            below,
-            top,
-            left,
-            height,
-            width,
-        }
+        Crop { below, window }
     }
 }
 
@@ -35,23 +34,18 @@ impl<S> Crop<S> {
 fn cut(wanted: usize, from: usize, length: u16) -> u16
     ensures { result ≡ min wanted (length - from) }
 {
-    let left = (length as usize).saturating_sub(from);
-    if wanted < left {
-        wanted as u16
-    } else {
-        left as u16
-    }
+    wanted.min(usize::from(length).saturating_sub(from)) as u16
 }
 
 impl<T: Tone, S: Source<T>> Source<T> for Crop<S> {
-    ghost page = { λ s. cropped s.top s.left s.height s.width (S.Source.page s.below) };
+    ghost page = { λ s. cropped s.window.top s.window.left s.window.height s.window.width (S.Source.page s.below) };
 
     fn width(&self) -> u16 {
-        cut(self.width, self.left, self.below.width())
+        cut(self.window.width, self.window.left, self.below.width())
     }
 
     fn height(&self) -> u16 {
-        cut(self.height, self.top, self.below.height())
+        cut(self.window.height, self.window.top, self.below.height())
     }
 
     fn layer(&self) -> u16 {
@@ -59,12 +53,17 @@ impl<T: Tone, S: Source<T>> Source<T> for Crop<S> {
     }
 
     fn at(&self, row: usize, column: usize) -> Result<T, Fault> {
-        let height = cut(self.height, self.top, self.below.height());
-        let width = cut(self.width, self.left, self.below.width());
-        if row >= height as usize || column >= width as usize {
-            let layer = layer_above(self.below.layer());
-            return Err(Fault::Outside(Spot { layer, row, column }));
-        }
-        self.below.at(self.top + row, self.left + column)
+        let Window {
+            top,
+            left,
+            height,
+            width,
+        } = self.window;
+        let layer = layer_above(self.below.layer());
+        let spot = Spot { layer, row, column };
+        let width = cut(width, left, self.below.width());
+        let height = cut(height, top, self.below.height());
+        spot.on_page(width, height)?;
+        self.below.at(top + row, left + column)
     }
 }

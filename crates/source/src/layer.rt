@@ -2,16 +2,9 @@
 ghost use Rattle.std.specs.Prelude.{◌≡◌};
 ghost use Rattle.source.specs.Layers.{above};
 
-// Where the numbers stop: every layer above has this one too.
-pub const TOP_LAYER: u16 = 65535;
-
-// The number of the layer over the layer `below`.
+// The number of the layer over the layer `below`. The numbers stop at 65,535: every layer above has this one too.
 pub fn layer_above(below: u16) -> u16
     ensures { result ≡ above below }
 {
-    if below < TOP_LAYER {
-        below + 1
-    } else {
-        TOP_LAYER
-    }
+    below.saturating_add(1)
 }

@@ -13,7 +13,7 @@ pub mod negative;
 pub mod sources;
 
 pub use chart::Chart;
-pub use crop::Crop;
+pub use crop::{Crop, Window};
 pub use fault::{Fault, Spot};
 pub use layer::layer_above;
 pub use negative::Negative;

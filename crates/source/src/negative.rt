@@ -5,6 +5,7 @@ ghost use Rattle.source.specs.Layers.{negative_tone, negated};
 use crate::fault::{Fault, Spot};
 use crate::layer::layer_above;
 use crate::sources::Source;
+use std::array;
 use tone::Tone;
 
 #[derive(Drop)]
@@ -26,11 +27,13 @@ impl<S> Negative<S> {
 fn negative_of<T: Tone>(tone: T) -> T
     ensures { result ≡ negative_tone T.Tone.count T.Tone.value T.Tone.made tone }
 {
-    let mut values = [0u8; 3];
-    for i in 0..T::channels() {
-        values[i] = 255 - tone.channel(i);
-    }
-    T::build(values)
+    T::build(array::from_fn(|i| {
+        if i < T::channels() {
+            255 - tone.channel(i)
+        } else {
+            0
+        }
+    }))
 }
 
 impl<T: Tone, S: Source<T>> Source<T> for Negative<S> {
@@ -49,13 +52,10 @@ impl<T: Tone, S: Source<T>> Source<T> for Negative<S> {
     }
 
     fn at(&self, row: usize, column: usize) -> Result<T, Fault> {
-        if row >= self.below.height() as usize || column >= self.below.width() as usize {
-            let layer = layer_above(self.below.layer());
-            return Err(Fault::Outside(Spot { layer, row, column }));
-        }
-        match self.below.at(row, column) {
-            Ok(tone) => Ok(if self.on { negative_of(tone) } else { tone }),
-            Err(fault) => Err(fault),
-        }
+        let layer = layer_above(self.below.layer());
+        let spot = Spot { layer, row, column };
+        spot.on_page(self.below.width(), self.below.height())?;
+        let tone = self.below.at(row, column)?;
+        Ok(if self.on { negative_of(tone) } else { tone })
     }
 }

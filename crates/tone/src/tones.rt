@@ -1,9 +1,11 @@
 // The interface of a kind of tone, and its two kinds here.
 ghost use Rattle.std.specs.Prelude.{List, ◌≡◌, ℕ, ◌<◌, ◌≤◌, get_or};
+ghost use Rattle.tone.specs.Channels.{channels_of};
 ghost use Rattle.tone.specs.Kinds.{grey_value, grey_made, colour_value, colour_made};
 ghost use Rattle.std.proofs.Common.{rules};
 
 use crate::kinds::{Colour, Grey};
+use std::array;
 
 pub trait Tone: Sized + Copy {
     // the number of channels
@@ -22,6 +24,19 @@ pub trait Tone: Sized + Copy {
     // The tone whose channel i has the value `values[i]`; values past the last channel belong to no channel.
     fn build(values: [u8; 3]) -> Self
         ensures { result ≡ made values };
+
+    // The values of all channels, and 0 in the places that belong to no channel.
+    fn values(&self) -> [u8; 3]
+        ensures { result ≡ channels_of count (value self.now) }
+    {
+        array::from_fn(|i| {
+            if i < Self::channels() {
+                self.channel(i)
+            } else {
+                0
+            }
+        })
+    }
 
     ghost some: { 1 ≤ count };
 
@@ -59,7 +74,8 @@ impl Tone for Grey {
     }
 
     fn build(values: [u8; 3]) -> Self {
-        Grey { light: values[0] }
+        let [light, ..] = values;
+        Grey { light }
     }
 }
 
@@ -92,10 +108,7 @@ impl Tone for Colour {
     }
 
     fn build(values: [u8; 3]) -> Self {
-        Colour {
-            red: values[0],
-            green: values[1],
-            blue: values[2],
-        }
+        let [red, green, blue] = values;
+        Colour { red, green, blue }
     }
 }
