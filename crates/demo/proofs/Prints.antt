@@ -1,13 +1,14 @@
 -- One place more is printed.
-use Rattle.std.proofs.Common.{◌≡◌, ℕ, ◌+◌, ◌*◌, ◌/◌, ◌%◌, ◌<◌, Bool, true, false, cond, ◌&&◌, eqb, leb, List, ◌++◌, length, take, drop, Ok, Err, Result, sym, refl, ap, ◌∙◌, ⊎_elim, mod-lt, mul_comm, arith}
+use Rattle.std.proofs.Common.{◌≡◌, ℕ, ◌+◌, ◌*◌, ◌/◌, ◌%◌, ◌<◌, Bool, true, false, cond, ◌&&◌, eqb, leb, List, ◌++◌, length, take, drop, Ok, Err, IsOk, Result, sym, refl, ap, ◌∙◌, ⊎_elim, mod-lt, mul_comm, arith}
 use Rattle.std.proofs.lemmas.List.{take_at}
 use Rattle.writer.specs.Buffers.{Wrote}
 use Rattle.std.proofs.lemmas.Nat.{div-mul-add, mod-mul-add, div-add-mod', div_below}
-use Rattle.std.proofs.lemmas.Bool.{cases_eq, cases_Bool, eq-eqb, eqb-true}
+use Rattle.std.proofs.lemmas.Bool.{cases_eq, cases_Bool, eq-eqb, eqb-true, lt-ltb}
 use Rattle.ink.specs.Inks.{Inks}
-use Rattle.sheet.specs.Laying.{Laid, put}
+use Rattle.sheet.specs.declared.fault.SheetFault.{SheetFault}
+use Rattle.sheet.specs.Laying.{Laid, put, fault_number, laying, numbered}
 use Rattle.sheet.specs.Meaning.{SheetMeaning}
-use Rattle.source.specs.Pages.{Page}
+use Rattle.source.specs.Pages.{Page, Place, tone, missing}
 use Rattle.demo.specs.Nearest.{nearest, Printed}
 
 -- place k of a page of w by h lies on the page
@@ -15,6 +16,19 @@ pub on_page : (k v u w h : ℕ) → v ≡ w → u ≡ h → k < v * u → (k / v
 on_page k v u w h wide high below =
     let some : 0 < v = ⊎_elim (λ z. let no : v * u ≡ 0 = ap (λ x. x * u) z ∙ omega arith in absurd (omega (arith, no, below))) (λ ne. omega arith) (cases_eq v 0) in
     (omega (arith, div_below k v u some (omega (arith, mul_comm v u))), omega (arith, mod-lt k some))
+
+-- the nearest ink is an ink of the set
+pub nearest_below : {T : Type 0} (n : ℕ) (value : T → ℕ → ℕ) (m : Inks T) (p : Place T) → nearest n value m p < m.number
+nearest_below n value m (tone t) = m.below _
+nearest_below n value m (missing s) = m.some
+
+-- a number below the limit is laid at each place of a sheet
+pub laid_there : (m : SheetMeaning) (r c number : ℕ) (x : Result (Unit {0}) SheetFault) → r < m.height → c < m.width → number < m.limit
+    → numbered x ≡ laying m r c number → IsOk x
+laid_there m r c number (Ok u) high wide low e = refl
+laid_there m r c number (Err f) high wide low e =
+    let no : ◌≡◌ {A = Result (Unit {0}) ℕ} (Err (fault_number f)) (Ok tt) = rw (lt-ltb r m.height high, lt-ltb c m.width wide, lt-ltb number m.limit low) at e in
+    let z : ◌≡◌ {A = ℕ} 0 1 = cc in absurd (omega arith)
 
 both_false : (a b : Bool) (x y : ℕ) → (a ≡ true → b ≡ true → ⊥) → cond (a && b) x y ≡ y
 both_false true true x y never = absurd (never refl refl)

@@ -1,11 +1,21 @@
 -- Each place printed with the ink nearest to its own tone.
-use Rattle.std.specs.Prelude.{◌≡◌, ℕ, ◌+◌, ◌*◌, ◌<◌, List, map, take, pos}
+use Rattle.std.specs.Prelude.{◌≡◌, ℕ, ◌+◌, ◌*◌, ◌<◌, false, List, map, take, pos}
 use Rattle.ink.specs.Inks.{Inks}
 use Rattle.ink.specs.Values.{values}
+use Rattle.sheet.specs.Limits.{fits}
 use Rattle.sheet.specs.Meaning.{SheetMeaning}
 use Rattle.source.specs.Pages.{Page, Place, tone, missing}
 use Rattle.tone.specs.Channels.{channels_of}
 use Rattle.writer.specs.Pages.{written}
+use Rattle.demo.specs.declared.parts.Stopped.{Stopped}
+use Rattle.demo.specs.declared.parts.Stopped.TheVariants.{NoPage, NoSheet, Unwritten, NoMemory}
+
+-- why a page is not printed, with so much memory for its sheet: NoSheet says that there is none of that size
+abbrev pub Unprinted : {T : Type 0} → Page T → ℕ → Stopped → Type 0
+Unprinted p memory (NoPage f) = ⊥
+Unprinted p memory NoSheet = fits p.width p.height (p.width * p.height) memory ≡ false
+Unprinted p memory (Unwritten f) = Unit {0}
+Unprinted p memory NoMemory = Unit {0}
 
 module _ {T : Type 0} (n : ℕ) (value : T → ℕ → ℕ) (m : Inks T) where
   -- the ink chosen for the values of a tone; ink 0 for a missing place

@@ -10,10 +10,10 @@ mod print;
 mod stages;
 
 use ink::{ColourLevels, GreyLevels, InkSet};
-use netpbm::{PageFault, PageTone, read};
-use parts::{Stages, Stopped, Unprinted, Window};
+use netpbm::{PageTone, read};
+use parts::{Stages, Stopped};
 use preview::{View, look};
-use source::Fault;
+use source::Window;
 use stages::stages;
 use std::io::Read;
 use std::{env, fs, io};
@@ -30,29 +30,10 @@ const WINDOW: Window = Window {
     width: 12,
 };
 
-fn print_view(rt: &HostRuntime, name: &str, view: &View) -> io::Result<()> {
-    let width = view.width;
-    let height = view.height;
-    let picture = view.picture.as_str();
-    println!(rt; "{name}: {width} wide, {height} high")?;
-    print!(rt; "{picture}")
-}
-
-fn print_fault(rt: &HostRuntime, name: &str, fault: &Fault) -> io::Result<()> {
-    let number = fault.number();
-    let spot = fault.spot();
-    let layer = spot.layer;
-    let row = spot.row;
-    let column = spot.column;
-    println!(rt;
-        "first missing place of the {name}: fault {number}, layer {layer}, row {row}, column {column}"
-    )
-}
-
 fn print_stage(rt: &HostRuntime, name: &str, view: &View) -> io::Result<()> {
-    print_view(rt, name, view)?;
-    match &view.missing {
-        Some(fault) => print_fault(rt, name, fault),
+    print!(rt; "{name}: {view}")?;
+    match view.missing {
+        Some(fault) => println!(rt; "first missing place of the {name}: fault {fault}"),
         None => Ok(()),
     }
 }
@@ -60,20 +41,16 @@ fn print_stage(rt: &HostRuntime, name: &str, view: &View) -> io::Result<()> {
 fn print_stages(rt: &HostRuntime, kind: &str, stages: &Stages) -> io::Result<()> {
     println!(rt; "read a {kind} page")?;
     print_stage(rt, "page", &stages.page)?;
-    let top = WINDOW.top;
-    let left = WINDOW.left;
-    let height = WINDOW.height;
-    let width = WINDOW.width;
+    let Window {
+        top,
+        left,
+        height,
+        width,
+    } = WINDOW;
     println!(rt; "cropped to {height} rows and {width} columns at row {top}, column {left}")?;
     print_stage(rt, "window", &stages.window)?;
     println!(rt; "turned to its negative")?;
     print_stage(rt, "negative", &stages.negative)
-}
-
-fn print_refusal(rt: &HostRuntime, fault: &PageFault) -> io::Result<()> {
-    let number = fault.number();
-    let byte = fault.byte();
-    println!(rt; "no page: fault {number} at byte {byte}")
 }
 
 // Reads the written page again, and shows it. A bitmap is not read.
@@ -85,7 +62,10 @@ fn print_written<T: PageTone>(rt: &HostRuntime, page: &[u8]) -> io::Result<()> {
     }
     match read::<T>(page) {
         Ok(reader) => print_stage(rt, "written page", &look(rt.alloc(), &reader)?),
-        Err(fault) => print_refusal(rt, &fault),
+        Err(fault) => {
+            let stopped = Stopped::NoPage(fault);
+            println!(rt; "{stopped}")
+        }
     }
 }
 
@@ -99,10 +79,8 @@ fn save(rt: &HostRuntime, page: &[u8]) -> io::Result<()> {
 
 // The number that the second argument gives, or `steps`.
 fn levels(rt: &HostRuntime, steps: u16) -> io::Result<u16> {
-    match env::args(rt)?.nth(2) {
-        Some(word) => Ok(word.as_str().parse::<u16>().unwrap_or(steps)),
-        None => Ok(steps),
-    }
+    let word = env::args(rt)?.nth(2);
+    Ok(word.map_or(steps, |word| word.as_str().parse::<u16>().unwrap_or(steps)))
 }
 
 fn show<T: PageTone, I: InkSet<T>>(
@@ -119,11 +97,7 @@ fn show<T: PageTone, I: InkSet<T>>(
             print_written::<T>(rt, done.printed.as_slice())?;
             save(rt, done.printed.as_slice())
         }
-        Err(Stopped::NoPage(fault)) => print_refusal(rt, &fault),
-        Err(Stopped::Unprinted(Unprinted::NoSheet)) => println!(rt; "no sheet of that size"),
-        Err(Stopped::Unprinted(Unprinted::NoMemory)) | Err(Stopped::NoMemory) => println!(rt;
-            "no memory"
-        ),
+        Err(stopped) => println!(rt; "{stopped}"),
     }
 }
 

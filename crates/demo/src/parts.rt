@@ -1,19 +1,13 @@
-// What the stages are made of.
+// What the stages give.
 ghost use Rattle.std.specs.Prelude.{◌≡◌};
-ghost use Rattle.demo.specs.declared.parts.Stopped.TheVariants.{NoMemory, Unprinted as NotPrinted};
+ghost use Rattle.demo.specs.declared.parts.Stopped.TheVariants.{NoMemory, NoPage, Unwritten};
 
 use netpbm::PageFault;
 use preview::View;
 use std::alloc::AllocError;
-
-// A window of a page.
-#[derive(Clone, Copy)]
-pub struct Window {
-    pub top: usize,
-    pub left: usize,
-    pub height: usize,
-    pub width: usize,
-}
+use std::error::Error;
+use std::fmt;
+use writer::WriteFault;
 
 // What each stage shows: the page as it is read, the window of it, and the window's negative; and the bytes of the page
 // that is printed from the negative.
@@ -26,32 +20,48 @@ pub struct Stages {
 }
 
 // Why there is nothing to show.
-#[derive(Drop)]
+#[derive(Clone, Copy, PartialEq, Eq, Debug)]
 pub enum Stopped {
     NoPage(PageFault),
-    Unprinted(Unprinted),
-    NoMemory,
-}
-
-// Why a page is not printed.
-#[derive(Drop)]
-pub enum Unprinted {
     // the page is larger than a sheet can be, or has no place
     NoSheet,
+    Unwritten(WriteFault),
     NoMemory,
 }
 
-impl From<AllocError> for Unprinted {
-    fn from(_: AllocError) -> Self {
-        Unprinted::NoMemory
+impl fmt::Display for Stopped {
+    fn fmt<W: fmt::Write>(&self, f: &mut fmt::Formatter<W>) -> fmt::Result {
+        match self {
+            Stopped::NoPage(fault) => {
+                let number = fault.number();
+                let byte = fault.byte();
+                write!(f, "no page: fault {number} at byte {byte}")
+            }
+            Stopped::NoSheet => write!(f, "no sheet of that size"),
+            Stopped::Unwritten(fault) => {
+                let number = fault.number();
+                write!(f, "not written: fault {number}")
+            }
+            Stopped::NoMemory => write!(f, "no memory"),
+        }
     }
 }
 
-impl From<Unprinted> for Stopped {
-    ghost from_gives = { λ u s. s ≡ NotPrinted u };
+impl Error for Stopped {}
 
-    fn from(reason: Unprinted) -> Self {
-        Stopped::Unprinted(reason)
+impl From<PageFault> for Stopped {
+    ghost from_gives = { λ f s. s ≡ NoPage f };
+
+    fn from(fault: PageFault) -> Self {
+        Stopped::NoPage(fault)
+    }
+}
+
+impl From<WriteFault> for Stopped {
+    ghost from_gives = { λ f s. s ≡ Unwritten f };
+
+    fn from(fault: WriteFault) -> Self {
+        Stopped::Unwritten(fault)
     }
 }
 

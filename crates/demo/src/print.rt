@@ -1,12 +1,12 @@
 // Printing a page with the nearest ink at each place, without diffusion.
-ghost use Rattle.std.specs.Prelude.{◌≡◌, ℕ, ◌+◌, ◌*◌, ◌<◌, map, pos, IfOk, OnOk};
-ghost use Rattle.demo.specs.Nearest.{nearest, Printed, PrintedInto, PrintedPage};
+ghost use Rattle.std.specs.Prelude.{◌≡◌, ℕ, ◌+◌, ◌*◌, ◌<◌, ◌≤◌, length, map, pos, IfOk, IfErr};
+ghost use Rattle.demo.specs.Nearest.{nearest, Printed, PrintedInto, PrintedPage, Unprinted};
 ghost use Rattle.tone.specs.Channels.{channels_of};
 
-use crate::parts::Unprinted;
+use crate::parts::Stopped;
 use ink::InkSet;
 use netpbm::PageTone;
-use sheet::{ByteSheet, Sheet, SheetFault};
+use sheet::{ByteSheet, Sheet};
 use source::Source;
 use std::alloc::Global;
 use tone::Tone;
@@ -16,11 +16,7 @@ use writer::write;
 fn wanted<T: Tone>(tone: &T) -> [i32; 3]
     ensures { result ≡ map pos (channels_of T.Tone.count (T.Tone.value tone.now)) }
 {
-    let mut values = [0i32; 3];
-    for i in 0..T::channels() {
-        values[i] = tone.channel(i) as i32;
-    }
-    values
+    tone.values().map(|value| i32::from(value))
 }
 
 // The ink for a place of the page; ink 0 where the place is missing.
@@ -33,29 +29,24 @@ fn ink_for<T: Tone, S: Source<T>, I: InkSet<T>>(
     requires { (row < (S.Source.page source.now).height) × (column < (S.Source.page source.now).width) }
     ensures { result ≡ nearest T.Tone.count T.Tone.value (I.InkSet.meaning inks.now) ((S.Source.page source.now).place row column) }
 {
-    match source.at(row, column) {
-        Ok(tone) => inks.choose(wanted(&tone)),
-        Err(_) => 0,
-    }
+    source
+        .at(row, column)
+        .map_or(0, |tone| inks.choose(wanted(&tone)))
 }
 
 // Lays the ink for each place of the page on a sheet of the same size.
-fn lay_nearest<T: Tone, S: Source<T>, I: InkSet<T>, L: Sheet>(
-    source: &S,
-    inks: &I,
-    sheet: &mut L,
-) -> Result<(), SheetFault>
-    ensures { (L.Sheet.meaning sheet.old).width ≡ (S.Source.page source.now).width
-        → (L.Sheet.meaning sheet.old).height ≡ (S.Source.page source.now).height
-        → OnOk result (Printed T.Tone.count T.Tone.value (I.InkSet.meaning inks.now) (S.Source.page source.now) (L.Sheet.meaning sheet.new)
-        ((S.Source.page source.now).width * (S.Source.page source.now).height)) }
+fn lay_nearest<T: Tone, S: Source<T>, I: InkSet<T>, L: Sheet>(source: &S, inks: &I, sheet: &mut L)
+    requires wide { (L.Sheet.meaning sheet.old).width ≡ (S.Source.page source.now).width }
+    requires high { (L.Sheet.meaning sheet.old).height ≡ (S.Source.page source.now).height }
+    requires room { (I.InkSet.meaning inks.now).number ≤ (L.Sheet.meaning sheet.old).limit }
+    ensures { Printed T.Tone.count T.Tone.value (I.InkSet.meaning inks.now) (S.Source.page source.now) (L.Sheet.meaning sheet.new)
+        ((S.Source.page source.now).width * (S.Source.page source.now).height) }
 {
-    let width = source.width() as usize;
-    for k in 0..width * source.height() as usize {
+    let width = usize::from(source.width());
+    for k in 0..width * usize::from(source.height()) {
         let number = ink_for(source, inks, k / width, k % width);
-        sheet.lay(k / width, k % width, number)?;
+        sheet.lay(k / width, k % width, number).unwrap();
     }
-    Ok(())
 }
 
 // Writes the page of the nearest inks into a buffer, with memory for the sheet.
@@ -64,20 +55,16 @@ fn print_into<T: PageTone, S: Source<T>, I: InkSet<T>>(
     inks: &I,
     memory: &mut [u8],
     page: &mut [u8],
-) -> Result<usize, Unprinted>
-    ensures { IfOk result (PrintedInto T.Tone.count T.Tone.value (I.InkSet.meaning inks.now) T.PageTone.letter (S.Source.page source.now) page.new) }
+) -> Result<usize, Stopped>
+    ensures page { IfOk result (PrintedInto T.Tone.count T.Tone.value (I.InkSet.meaning inks.now) T.PageTone.letter (S.Source.page source.now) page.new) }
+    ensures why { IfErr result (Unprinted (S.Source.page source.now) (length memory.old)) }
 {
     let mut sheet = ByteSheet::new(memory, source.width(), source.height());
     if sheet.width() != source.width() || sheet.height() != source.height() {
-        return Err(Unprinted::NoSheet);
+        return Err(Stopped::NoSheet);
     }
-    let Ok(()) = lay_nearest(source, inks, &mut sheet) else {
-        return Err(Unprinted::NoSheet);
-    };
-    match write(inks, &sheet, page) {
-        Ok(length) => Ok(length),
-        Err(_) => Err(Unprinted::NoMemory),
-    }
+    lay_nearest(source, inks, &mut sheet);
+    Ok(write(inks, &sheet, page)?)
 }
 
 // The bytes of a page's header, at most.
@@ -88,10 +75,11 @@ pub fn print_page<T: PageTone, S: Source<T>, I: InkSet<T>>(
     heap: Global,
     source: &S,
     inks: &I,
-) -> Result<Vec<u8>, Unprinted>
-    ensures { IfOk result (λ v. PrintedPage T.Tone.count T.Tone.value (I.InkSet.meaning inks.now) T.PageTone.letter (S.Source.page source.now) v.items) }
+) -> Result<Vec<u8>, Stopped>
+    ensures page { IfOk result (λ v. PrintedPage T.Tone.count T.Tone.value (I.InkSet.meaning inks.now) T.PageTone.letter (S.Source.page source.now) v.items) }
+    ensures why { IfErr result (Unprinted (S.Source.page source.now) ((S.Source.page source.now).width * (S.Source.page source.now).height)) }
 {
-    let cells = source.width() as usize * source.height() as usize;
+    let cells = usize::from(source.width()) * usize::from(source.height());
     let mut memory = vec![in heap; 0u8; cells]?;
     let mut page = vec![in heap; 0u8; HEADER + cells * T::channels()]?;
     let length = print_into(source, inks, memory.as_mut_slice(), page.as_mut_slice())?;

@@ -1,12 +1,12 @@
 // The stages: read, crop, negative, print.
 ghost use Rattle.demo.specs.Staged.{Staged};
 
-use crate::parts::{Stages, Stopped, Window};
+use crate::parts::{Stages, Stopped};
 use crate::print::print_page;
 use ink::InkSet;
 use netpbm::{PageTone, read};
 use preview::look;
-use source::{Crop, Negative};
+use source::{Crop, Negative, Window};
 use std::alloc::Global;
 
 // Reads the page, looks at it, at a window of it, and at the window's negative, and prints that with the nearest inks.
@@ -18,12 +18,9 @@ pub fn stages<T: PageTone, I: InkSet<T>>(
 ) -> Result<Stages, Stopped>
     ensures { Staged T.PageTone.letter T.Tone.count T.Tone.value T.Tone.made (I.InkSet.meaning inks.now) bytes.now window.now result }
 {
-    let reader = match read::<T>(bytes) {
-        Ok(reader) => reader,
-        Err(fault) => return Err(Stopped::NoPage(fault)),
-    };
+    let reader = read::<T>(bytes)?;
     let page = look(heap, &reader)?;
-    let cropped = Crop::new(reader, window.top, window.left, window.height, window.width);
+    let cropped = Crop::new(reader, *window);
     let shown = look(heap, &cropped)?;
     let negative = Negative::new(cropped, true);
     let turned = look(heap, &negative)?;

@@ -23,10 +23,7 @@ fn mark<T: Tone>(tone: &T) -> char
     ensures here { result ≡ mark_of T.Tone.count (T.Tone.value tone.now) }
     ensures ascii { result < 128 }
 {
-    let mut sum: usize = 0;
-    for i in 0..T::channels() {
-        sum += tone.channel(i) as usize;
-    }
+    let sum: usize = tone.values().iter().map(|value| usize::from(*value)).sum();
     MARKS[sum / T::channels() * 10 / 256]
 }
 
@@ -35,10 +32,7 @@ fn mark_at<T: Tone, S: Source<T>>(source: &S, row: usize, column: usize) -> char
     ensures here { result ≡ mark_told T.Tone.count T.Tone.value (answer (S.Source.page source.now) row column) }
     ensures ascii { result < 128 }
 {
-    match source.at(row, column) {
-        Ok(tone) => mark(&tone),
-        Err(_) => '?',
-    }
+    source.at(row, column).map_or('?', |tone| mark(&tone))
 }
 
 // Adds the line of a row to the picture.
@@ -49,7 +43,7 @@ fn add_row<T: Tone, S: Source<T>>(
 ) -> Result<(), AllocError>
     ensures { OnOk result (string_bytes picture.new ≡ string_bytes picture.old ++ row_text T.Tone.count T.Tone.value (S.Source.page source.now) row) }
 {
-    for column in 0..source.width().min(COLUMNS) as usize {
+    for column in 0..usize::from(source.width().min(COLUMNS)) {
         picture.push(mark_at(source, row, column))?;
     }
     picture.push('\n')?;
@@ -61,7 +55,7 @@ fn missing_in_row<T: Tone, S: Source<T>>(source: &S, row: usize) -> Option<Fault
     requires { row < (S.Source.page source.now).height }
     ensures { heard result ≡ missing_of_row (S.Source.page source.now) row }
 {
-    for column in 0..source.width() as usize {
+    for column in 0..usize::from(source.width()) {
         if let Err(fault) = source.at(row, column) {
             return Some(fault);
         }
@@ -73,7 +67,7 @@ fn missing_in_row<T: Tone, S: Source<T>>(source: &S, row: usize) -> Option<Fault
 fn first_missing<T: Tone, S: Source<T>>(source: &S) -> Option<Fault>
     ensures { heard result ≡ missing_of_page (S.Source.page source.now) }
 {
-    for row in 0..source.height() as usize {
+    for row in 0..usize::from(source.height()) {
         if let Some(fault) = missing_in_row(source, row) {
             return Some(fault);
         }
@@ -86,7 +80,7 @@ fn picture<T: Tone, S: Source<T>>(heap: Global, source: &S) -> Result<String, Al
     ensures { IfOk result (λ s. string_bytes s ≡ picture_of T.Tone.count T.Tone.value (S.Source.page source.now)) }
 {
     let mut picture = String::new(heap);
-    for row in 0..source.height().min(ROWS) as usize {
+    for row in 0..usize::from(source.height().min(ROWS)) {
         add_row(source, row, &mut picture)?;
     }
     Ok(picture)

@@ -4,6 +4,5 @@ use Rattle.demo.proofs.print.lay_nearest.Given as goal
 
 abbrev pub invariant-loop-k : goal.invariant-loop-k
 invariant-loop-k g l =
-    (g.L.Sheet.meaning l.initial.sheet).width ≡ (g.S.Source.page l.source).width
-    → (g.L.Sheet.meaning l.initial.sheet).height ≡ (g.S.Source.page l.source).height
-    → Printed g.T.Tone.count g.T.Tone.value (g.I.InkSet.meaning l.inks) (g.S.Source.page l.source) (g.L.Sheet.meaning l.sheet) l.k
+    ((g.L.Sheet.meaning l.sheet).limit ≡ (g.L.Sheet.meaning l.initial.sheet).limit)
+    × Printed g.T.Tone.count g.T.Tone.value (g.I.InkSet.meaning l.inks) (g.S.Source.page l.source) (g.L.Sheet.meaning l.sheet) l.k
