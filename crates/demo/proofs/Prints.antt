@@ -1,8 +1,8 @@
 -- One place more is printed.
-use Rattle.std.proofs.Common.{◌≡◌, ℕ, ◌+◌, ◌*◌, ◌/◌, ◌%◌, ◌<◌, Bool, true, false, cond, ◌&&◌, eqb, leb, List, ◌++◌, length, take, drop, Ok, Err, IsOk, Result, sym, refl, ap, ◌∙◌, ⊎_elim, mod-lt, mul_comm, arith}
+use Rattle.std.proofs.Common.{◌≡◌, ℕ, ◌+◌, ◌*◌, ◌/◌, ◌%◌, ◌<◌, Bool, true, false, cond, ◌&&◌, eqb, leb, List, ◌++◌, length, take, drop, Ok, Err, IsOk, Result, sym, refl, ap, ◌∙◌, ⊎_elim, arith}
 use Rattle.std.proofs.lemmas.List.{take_at}
 use Rattle.writer.specs.Buffers.{Wrote}
-use Rattle.std.proofs.lemmas.Nat.{div-mul-add, mod-mul-add, div-add-mod', div_below}
+use Rattle.std.proofs.lemmas.Nat.{div-mul-add, mod-mul-add}
 use Rattle.std.proofs.lemmas.Bool.{cases_eq, cases_Bool, eq-eqb, eqb-true, lt-ltb}
 use Rattle.ink.specs.Inks.{Inks}
 use Rattle.sheet.specs.declared.fault.SheetFault.{SheetFault}
@@ -10,12 +10,6 @@ use Rattle.sheet.specs.Laying.{Laid, put, fault_number, laying, numbered}
 use Rattle.sheet.specs.Meaning.{SheetMeaning}
 use Rattle.source.specs.Pages.{Page, Place, tone, missing}
 use Rattle.demo.specs.Nearest.{nearest, Printed}
-
--- place k of a page of w by h lies on the page
-pub on_page : (k v u w h : ℕ) → v ≡ w → u ≡ h → k < v * u → (k / v < h) × (k % v < w)
-on_page k v u w h wide high below =
-    let some : 0 < v = ⊎_elim (λ z. let no : v * u ≡ 0 = ap (λ x. x * u) z ∙ omega arith in absurd (omega (arith, no, below))) (λ ne. omega arith) (cases_eq v 0) in
-    (omega (arith, div_below k v u some (omega (arith, mul_comm v u))), omega (arith, mod-lt k some))
 
 -- the nearest ink is an ink of the set
 pub nearest_below : {T : Type 0} (n : ℕ) (value : T → ℕ → ℕ) (m : Inks T) (p : Place T) → nearest n value m p < m.number
@@ -35,21 +29,18 @@ both_false true true x y never = absurd (never refl refl)
 both_false true false x y never = refl
 both_false false b x y never = refl
 
-module _ {T : Type 0} (n : ℕ) (value : T → ℕ → ℕ) (m : Inks T) (p : Page T) (s t : SheetMeaning) (k v number : ℕ) (wide : v ≡ p.width)
-    (done : Printed n value m p s k) (laid : Laid s t (k / v) (k % v) number) (chosen : number ≡ nearest n value m (p.place (k / v) (k % v))) where
-  here : (r c : ℕ) → c < p.width → r * p.width + c ≡ k → (r ≡ k / v) × (c ≡ k % v)
+module _ {T : Type 0} (n : ℕ) (value : T → ℕ → ℕ) (m : Inks T) (p : Page T) (s t : SheetMeaning) (row column number : ℕ) (inside : column < p.width)
+    (done : Printed n value m p s (row * p.width + column)) (laid : Laid s t row column number) (chosen : number ≡ nearest n value m (p.place row column)) where
+  here : (r c : ℕ) → c < p.width → r * p.width + c ≡ row * p.width + column → (r ≡ row) × (c ≡ column)
   here r c q e = (
-    sym (div-mul-add r p.width c q) ∙ (ap (λ x. x / p.width) e ∙ ap (λ x. k / x) (sym wide)),
-    sym (mod-mul-add r p.width c q) ∙ (ap (λ x. x % p.width) e ∙ ap (λ x. k % x) (sym wide)),
+    sym (div-mul-add r p.width c q) ∙ (ap (λ x. x / p.width) e ∙ div-mul-add row p.width column inside),
+    sym (mod-mul-add r p.width c q) ∙ (ap (λ x. x % p.width) e ∙ mod-mul-add row p.width column inside),
   )
 
-  back : (r c : ℕ) → r ≡ k / v → c ≡ k % v → r * p.width + c ≡ k
-  back r c a b = let w = wide in let e = div-add-mod' k v in cc
-
-  ink_now : (r c : ℕ) → r < p.height → c < p.width → t.ink r c ≡ put s.ink (k / v) (k % v) number r c
+  ink_now : (r c : ℕ) → r < p.height → c < p.width → t.ink r c ≡ put s.ink row column number r c
   ink_now r c a b = laid.inks r c (omega (arith, done.height)) (omega (arith, done.width))
 
-  pub printed_more : Printed n value m p t (k + 1)
+  pub printed_more : Printed n value m p t (row * p.width + (column + 1))
   printed_more = record {
     width = laid.width ∙ done.width;
     height = laid.height ∙ done.height;
@@ -58,12 +49,12 @@ module _ {T : Type 0} (n : ℕ) (value : T → ℕ → ℕ) (m : Inks T) (p : Pa
         (λ e. let at = here r c b e in
         let x = at.0 in
         let y = at.1 in
-        let now : put s.ink (k / v) (k % v) number r c ≡ number = rw (eq-eqb r (k / v) x, eq-eqb c (k % v) y) refl in
-        let same : nearest n value m (p.place (k / v) (k % v)) ≡ nearest n value m (p.place r c) = cc in
+        let now : put s.ink row column number r c ≡ number = rw (eq-eqb r row x, eq-eqb c column y) refl in
+        let same : nearest n value m (p.place row column) ≡ nearest n value m (p.place r c) = cc in
         ink_now r c a b ∙ (now ∙ (chosen ∙ same)))
-        (λ ne. ink_now r c a b ∙ (both_false (eqb r (k / v)) (eqb c (k % v)) number (s.ink r c)
-        (λ x y. ne (back r c (eqb-true r (k / v) x) (eqb-true c (k % v) y))) ∙ done.inks r c a b (omega arith)))
-        (cases_eq (r * p.width + c) k);
+        (λ ne. ink_now r c a b ∙ (both_false (eqb r row) (eqb c column) number (s.ink r c)
+        (λ x y. let u = eqb-true r row x in let v = eqb-true c column y in ne (cc)) ∙ done.inks r c a b (omega arith)))
+        (cases_eq (r * p.width + c) (row * p.width + column));
   }
 
 -- what a page that was written leaves at the start of the buffer

@@ -34,7 +34,28 @@ fn ink_for<T: Tone, S: Source<T>, I: InkSet<T>>(
         .map_or(0, |tone| inks.choose(wanted(&tone)))
 }
 
-// Lays the ink for each place of the page on a sheet of the same size.
+// Lays the ink for each place of a row on a sheet of the page's size.
+fn lay_row<T: Tone, S: Source<T>, I: InkSet<T>, L: Sheet>(
+    source: &S,
+    inks: &I,
+    sheet: &mut L,
+    row: usize,
+)
+    requires high { row < (S.Source.page source.now).height }
+    requires room { (I.InkSet.meaning inks.now).number ≤ (L.Sheet.meaning sheet.old).limit }
+    requires above { Printed T.Tone.count T.Tone.value (I.InkSet.meaning inks.now) (S.Source.page source.now) (L.Sheet.meaning sheet.old)
+        (row * (S.Source.page source.now).width) }
+    ensures limit { (L.Sheet.meaning sheet.new).limit ≡ (L.Sheet.meaning sheet.old).limit }
+    ensures row { Printed T.Tone.count T.Tone.value (I.InkSet.meaning inks.now) (S.Source.page source.now) (L.Sheet.meaning sheet.new)
+        ((row + 1) * (S.Source.page source.now).width) }
+{
+    for column in 0..usize::from(source.width()) {
+        let number = ink_for(source, inks, row, column);
+        sheet.lay(row, column, number).unwrap();
+    }
+}
+
+// Lays the ink for each place of the page on a sheet of its size.
 fn lay_nearest<T: Tone, S: Source<T>, I: InkSet<T>, L: Sheet>(source: &S, inks: &I, sheet: &mut L)
     requires wide { (L.Sheet.meaning sheet.old).width ≡ (S.Source.page source.now).width }
     requires high { (L.Sheet.meaning sheet.old).height ≡ (S.Source.page source.now).height }
@@ -42,10 +63,8 @@ fn lay_nearest<T: Tone, S: Source<T>, I: InkSet<T>, L: Sheet>(source: &S, inks: 
     ensures { Printed T.Tone.count T.Tone.value (I.InkSet.meaning inks.now) (S.Source.page source.now) (L.Sheet.meaning sheet.new)
         ((S.Source.page source.now).width * (S.Source.page source.now).height) }
 {
-    let width = usize::from(source.width());
-    for k in 0..width * usize::from(source.height()) {
-        let number = ink_for(source, inks, k / width, k % width);
-        sheet.lay(k / width, k % width, number).unwrap();
+    for row in 0..usize::from(source.height()) {
+        lay_row(source, inks, sheet, row);
     }
 }
 

@@ -1,0 +1,9 @@
+use Rattle.std.proofs.Common.{◌≡◌, ◌+◌, ◌*◌}
+use Rattle.demo.specs.Nearest.{Printed}
+use Rattle.demo.proofs.print.lay_row.Given as goal
+
+abbrev pub invariant-loop-column : goal.invariant-loop-column
+invariant-loop-column g l =
+    ((g.L.Sheet.meaning l.sheet).limit ≡ (g.L.Sheet.meaning l.initial.sheet).limit)
+    × Printed g.T.Tone.count g.T.Tone.value (g.I.InkSet.meaning l.inks) (g.S.Source.page l.source) (g.L.Sheet.meaning l.sheet)
+    (l.row * (g.S.Source.page l.source).width + l.column)
