@@ -9,6 +9,7 @@ use crate::letters::PageTone;
 use crate::open::open;
 use crate::page::Reader;
 use source::{Fault, Source, Spot};
+use std::array;
 use std::marker::PhantomData;
 use tone::Tone;
 
@@ -32,11 +33,13 @@ fn tone_at<T: Tone>(bytes: &[u8], from: usize) -> T
     requires { from + T.Tone.count ≤ length bytes.now }
     ensures { result ≡ T.Tone.made (channels_of T.Tone.count (λ i. slice_index bytes.now (from + i))) }
 {
-    let mut values = [0u8; 3];
-    for i in 0..T::channels() {
-        values[i] = bytes[from + i];
-    }
-    T::build(values)
+    T::build(array::from_fn(|i| {
+        if i < T::channels() {
+            bytes[from + i]
+        } else {
+            0
+        }
+    }))
 }
 
 impl<'a, T: Tone> Source<T> for Reader<'a, T> {
@@ -55,23 +58,18 @@ impl<'a, T: Tone> Source<T> for Reader<'a, T> {
     }
 
     fn at(&self, row: usize, column: usize) -> Result<T, Fault> {
-        if row >= self.header.height as usize || column >= self.header.width as usize {
-            return Err(Fault::Outside(Spot {
-                layer: 0,
-                row,
-                column,
-            }));
-        }
+        let spot = Spot {
+            layer: 0,
+            row,
+            column,
+        };
+        spot.on_page(self.header.width, self.header.height)?;
         let n = T::channels();
-        let skip = (row * self.header.width as usize + column) * n;
+        let skip = (row * usize::from(self.header.width) + column) * n;
         if self.header.raster > self.bytes.len()
             || self.bytes.len() - self.header.raster < skip + n
         {
-            return Err(Fault::Missing(Spot {
-                layer: 0,
-                row,
-                column,
-            }));
+            return Err(Fault::Missing(spot));
         }
         Ok(tone_at(self.bytes, self.header.raster + skip))
     }
