@@ -36,7 +36,7 @@ pub enum Fault {
 }
 
 impl Fault {
-    // The fault's number.
+    // The fault's number: users know refusals by their listed numbers.
     pub fn number(&self) -> u8
         ensures { result ≡ (told self.now).number }
     {

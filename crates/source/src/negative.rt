@@ -11,6 +11,7 @@ use tone::Tone;
 #[derive(Drop)]
 pub struct Negative<S> {
     below: S,
+    // a flag: the layer stands, with its number, in both states, and an enum would hold `below` twice
     on: bool,
 }
 

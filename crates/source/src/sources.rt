@@ -20,7 +20,8 @@ pub trait Source<T: Tone> {
     fn layer(&self) -> u16
         ensures { result ≡ (page self.now).layer };
 
-    // The tone at a place, or the fault.
+    // The tone at a place, or the fault. Row and column come from loops of their own, so that a pair of them would only be
+    // packed at each call and unpacked here.
     fn at(&self, row: usize, column: usize) -> Result<T, Fault>
         ensures { said result ≡ answer (page self.now) row column };
 }
