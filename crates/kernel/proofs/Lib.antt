@@ -1,2 +1,2 @@
-pub mod Walks
+pub mod Neighbours
 pub mod Refusals

@@ -1,4 +1,4 @@
--- The published kernels.
+-- The published kernels. The tables are written out, and not read from the constants of the code: so a wrong tap there is refused.
 use Rattle.std.specs.Prelude.{◌≡◌, ℕ, Bool, true, ◌&&◌, List, [], ◌∷◌, map, pos, neg_ℤ}
 use Rattle.kernel.specs.declared.tap.Tap.{Tap}
 use Rattle.kernel.specs.declared.tables.Published.{Published}

@@ -1,6 +1,8 @@
 -- The rules of a kernel, as a test that computes.
-use Rattle.std.specs.Prelude.{ℕ, suc, ◌+◌, Bool, true, false, cond, ◌&&◌, ◌||◌, List, [], ◌∷◌, length, ℤ, pos, neg_ℤ, Some, None, Option, ◌==◌, int_le, int_lt, nat_le, nat_lt}
+use Rattle.std.specs.Prelude.{ℕ, suc, Bool, true, false, cond, ◌&&◌, ◌||◌, List, [], ◌∷◌, length, sum_by, ℤ, pos, neg_ℤ, Some, None, Option, ◌==◌, int_le, int_lt, nat_le, nat_lt}
 use Rattle.kernel.specs.declared.tap.Tap.{Tap}
+
+-- The limits are written out, and not read from the constants of the code: so a wrong constant is refused.
 
 -- how many rows down, and how many columns to either side, a tap may reach
 abbrev pub rows_down : ℕ
@@ -48,14 +50,9 @@ abbrev pub first_bad : Tap → ℕ → List Tap → Option ℕ
 first_bad before i [] = None
 first_bad before i (t ∷ ts) = cond (fits t && rises before t) (first_bad t (suc i) ts) (Some i)
 
--- the sum of a quantity over the taps
-abbrev pub over : (Tap → ℕ) → List Tap → ℕ
-over f [] = 0
-over f (t ∷ ts) = f t + over f ts
-
 -- W, the sum of the weights
 abbrev pub weights : List Tap → ℕ
-weights ts = over (λ t. t.weight) ts
+weights ts = sum_by (λ (t : Tap). t.weight) ts
 
 abbrev pub none : Option ℕ → Bool
 none None = true

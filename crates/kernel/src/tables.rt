@@ -1,9 +1,13 @@
 // The six published kernels: Floyd and Steinberg; Jarvis, Judice and Ninke;
 // Sierra's three; Atkinson.
-use crate::tap::{MOST_TAPS, Tap};
+ghost use Rattle.std.specs.Prelude.{◌≡◌};
+ghost use Rattle.kernel.specs.Rules.{shape};
+ghost use Rattle.kernel.specs.Published.{table};
+
+use crate::tap::Tap;
 
 // The name of a published kernel.
-#[derive(Clone, Copy)]
+#[derive(Clone, Copy, PartialEq, Eq, Debug)]
 pub enum Published {
     Floyd,
     Jarvis,
@@ -13,12 +17,27 @@ pub enum Published {
     Atkinson,
 }
 
-// The divisor and the first `len` taps of a published kernel.
+impl Published {
+    // The published divisor and taps.
+    pub(crate) fn table(self) -> Table<'static>
+        ensures { shape result.divisor result.taps.now ≡ table self }
+    {
+        match self {
+            Published::Floyd => FLOYD,
+            Published::Jarvis => JARVIS,
+            Published::Sierra3 => SIERRA3,
+            Published::Sierra2 => SIERRA2,
+            Published::Sierra1 => SIERRA1,
+            Published::Atkinson => ATKINSON,
+        }
+    }
+}
+
+// A divisor and taps, whether or not they keep the rules of a kernel.
 #[derive(Clone, Copy)]
-pub(crate) struct Table {
+pub(crate) struct Table<'a> {
     pub(crate) divisor: u32,
-    pub(crate) len: usize,
-    pub(crate) taps: [Tap; MOST_TAPS],
+    pub(crate) taps: &'a [Tap],
 }
 
 // A tap: rows down, columns ahead, weight.
@@ -32,32 +51,17 @@ macro_rules! tap {
     };
 }
 
-// Fills the places past the last tap.
-pub(crate) const UNUSED: Tap = tap!(0, 1, 1);
+#[cfg(test)]
+pub(crate) use tap;
 
-pub(crate) const FLOYD: Table = Table {
+const FLOYD: Table<'static> = Table {
     divisor: 16,
-    len: 4,
-    taps: [
-        tap!(0, 1, 7),
-        tap!(1, -1, 3),
-        tap!(1, 0, 5),
-        tap!(1, 1, 1),
-        UNUSED,
-        UNUSED,
-        UNUSED,
-        UNUSED,
-        UNUSED,
-        UNUSED,
-        UNUSED,
-        UNUSED,
-    ],
+    taps: &[tap!(0, 1, 7), tap!(1, -1, 3), tap!(1, 0, 5), tap!(1, 1, 1)],
 };
 
-pub(crate) const JARVIS: Table = Table {
+const JARVIS: Table<'static> = Table {
     divisor: 48,
-    len: 12,
-    taps: [
+    taps: &[
         tap!(0, 1, 7),
         tap!(0, 2, 5),
         tap!(1, -2, 3),
@@ -73,10 +77,9 @@ pub(crate) const JARVIS: Table = Table {
     ],
 };
 
-pub(crate) const SIERRA3: Table = Table {
+const SIERRA3: Table<'static> = Table {
     divisor: 32,
-    len: 10,
-    taps: [
+    taps: &[
         tap!(0, 1, 5),
         tap!(0, 2, 3),
         tap!(1, -2, 2),
@@ -87,15 +90,12 @@ pub(crate) const SIERRA3: Table = Table {
         tap!(2, -1, 2),
         tap!(2, 0, 3),
         tap!(2, 1, 2),
-        UNUSED,
-        UNUSED,
     ],
 };
 
-pub(crate) const SIERRA2: Table = Table {
+const SIERRA2: Table<'static> = Table {
     divisor: 16,
-    len: 7,
-    taps: [
+    taps: &[
         tap!(0, 1, 4),
         tap!(0, 2, 3),
         tap!(1, -2, 1),
@@ -103,48 +103,22 @@ pub(crate) const SIERRA2: Table = Table {
         tap!(1, 0, 3),
         tap!(1, 1, 2),
         tap!(1, 2, 1),
-        UNUSED,
-        UNUSED,
-        UNUSED,
-        UNUSED,
-        UNUSED,
     ],
 };
 
-pub(crate) const SIERRA1: Table = Table {
+const SIERRA1: Table<'static> = Table {
     divisor: 4,
-    len: 3,
-    taps: [
-        tap!(0, 1, 2),
-        tap!(1, -1, 1),
-        tap!(1, 0, 1),
-        UNUSED,
-        UNUSED,
-        UNUSED,
-        UNUSED,
-        UNUSED,
-        UNUSED,
-        UNUSED,
-        UNUSED,
-        UNUSED,
-    ],
+    taps: &[tap!(0, 1, 2), tap!(1, -1, 1), tap!(1, 0, 1)],
 };
 
-pub(crate) const ATKINSON: Table = Table {
+const ATKINSON: Table<'static> = Table {
     divisor: 8,
-    len: 6,
-    taps: [
+    taps: &[
         tap!(0, 1, 1),
         tap!(0, 2, 1),
         tap!(1, -1, 1),
         tap!(1, 0, 1),
         tap!(1, 1, 1),
         tap!(2, 0, 1),
-        UNUSED,
-        UNUSED,
-        UNUSED,
-        UNUSED,
-        UNUSED,
-        UNUSED,
     ],
 };

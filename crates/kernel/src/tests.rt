@@ -1,15 +1,8 @@
 // What setting a kernel accepts and refuses, by example.
 use crate::shape::Kernel;
-use crate::tables::Published;
+use crate::tables::{Published, tap};
 use crate::tap::{KernelFault, Tap};
-
-const fn tap(down: u32, ahead: i32, weight: u32) -> Tap {
-    Tap {
-        down,
-        ahead,
-        weight,
-    }
-}
+use std::test::Fail;
 
 // Whether the kernel has this divisor, number of taps and sum of weights.
 fn has(k: &Kernel, divisor: u32, count: usize, weight: u32) -> bool {
@@ -38,14 +31,20 @@ fn published_kernels(rt: HostRuntime) {
 }
 
 #[test]
+fn made_by_traits(rt: HostRuntime) {
+    assert!(rt; has(&Kernel::default(), 16, 4, 16));
+    assert!(rt; has(&Kernel::from(Published::Sierra1), 4, 3, 4));
+}
+
+#[test]
 fn accepts(rt: HostRuntime) {
     let mut k = Kernel::new();
-    assert_eq!(rt; k.set(16, &[tap(0, 1, 8), tap(1, 0, 8)]), Ok(()));
+    assert_eq!(rt; k.set(16, &[tap!(0, 1, 8), tap!(1, 0, 8)]), Ok(()));
     assert!(rt; has(&k, 16, 2, 16));
     assert_eq!(rt;
         answer(
             256,
-            &[tap(0, 1, 1), tap(0, 2, 1), tap(1, -2, 1), tap(2, 2, 1)],
+            &[tap!(0, 1, 1), tap!(0, 2, 1), tap!(1, -2, 1), tap!(2, 2, 1)],
         ),
         Ok(())
     );
@@ -53,43 +52,54 @@ fn accepts(rt: HostRuntime) {
 
 #[test]
 fn refuses_divisor_count_and_sum(rt: HostRuntime) {
-    assert_eq!(rt; answer(0, &[tap(0, 1, 1)]), Err(KernelFault::Divisor));
+    assert_eq!(rt; answer(0, &[tap!(0, 1, 1)]), Err(KernelFault::Divisor));
     assert_eq!(rt; answer(257, &[]), Err(KernelFault::Divisor));
     assert_eq!(rt; answer(1, &[]), Err(KernelFault::Count));
-    assert_eq!(rt; answer(256, &[tap(0, 1, 1); 13]), Err(KernelFault::Count));
+    assert_eq!(rt; answer(256, &[tap!(0, 1, 1); 13]), Err(KernelFault::Count));
     assert_eq!(rt;
-        answer(16, &[tap(0, 1, 8), tap(1, 0, 9)]),
+        answer(16, &[tap!(0, 1, 8), tap!(1, 0, 9)]),
         Err(KernelFault::Sum)
     );
     assert_eq!(rt;
-        answer(16, &[tap(0, 1, 4294967295), tap(1, 0, 4294967295)]),
+        answer(16, &[tap!(0, 1, 4294967295), tap!(1, 0, 4294967295)]),
         Err(KernelFault::Sum)
     );
 }
 
 #[test]
 fn refuses_taps(rt: HostRuntime) {
-    assert_eq!(rt; answer(16, &[tap(0, 0, 1)]), Err(KernelFault::Tap(0)));
-    assert_eq!(rt; answer(16, &[tap(0, -1, 1)]), Err(KernelFault::Tap(0)));
-    assert_eq!(rt; answer(16, &[tap(0, 3, 1)]), Err(KernelFault::Tap(0)));
+    assert_eq!(rt; answer(16, &[tap!(0, 0, 1)]), Err(KernelFault::Tap(0)));
+    assert_eq!(rt; answer(16, &[tap!(0, -1, 1)]), Err(KernelFault::Tap(0)));
+    assert_eq!(rt; answer(16, &[tap!(0, 3, 1)]), Err(KernelFault::Tap(0)));
     assert_eq!(rt;
-        answer(16, &[tap(0, 1, 1), tap(1, -3, 1)]),
+        answer(16, &[tap!(0, 1, 1), tap!(1, -3, 1)]),
         Err(KernelFault::Tap(1))
     );
     assert_eq!(rt;
-        answer(16, &[tap(0, 1, 1), tap(3, 0, 1)]),
+        answer(16, &[tap!(0, 1, 1), tap!(3, 0, 1)]),
         Err(KernelFault::Tap(1))
     );
     assert_eq!(rt;
-        answer(16, &[tap(0, 1, 1), tap(1, 0, 0)]),
+        answer(16, &[tap!(0, 1, 1), tap!(1, 0, 0)]),
         Err(KernelFault::Tap(1))
     );
     assert_eq!(rt;
-        answer(16, &[tap(0, 1, 99), tap(0, 1, 1)]),
+        answer(16, &[tap!(0, 1, 99), tap!(0, 1, 1)]),
         Err(KernelFault::Tap(1))
     );
     assert_eq!(rt;
-        answer(16, &[tap(1, 0, 1), tap(0, 1, 1)]),
+        answer(16, &[tap!(1, 0, 1), tap!(0, 1, 1)]),
         Err(KernelFault::Tap(1))
     );
+}
+
+#[test]
+fn faults_have_numbers_and_words(rt: HostRuntime) -> Result<(), Fail> {
+    assert_eq!(rt; KernelFault::Divisor.number(), 11);
+    assert_eq!(rt; KernelFault::Count.number(), 12);
+    assert_eq!(rt; KernelFault::Tap(3).number(), 13);
+    assert_eq!(rt; KernelFault::Sum.number(), 14);
+    let text = KernelFault::Tap(3).to_string(rt.alloc())?;
+    assert_eq!(rt; text.as_str(), "tap 3 breaks reach, order or weight");
+    Ok(())
 }

@@ -2,11 +2,12 @@
 use Rattle.std.proofs.Common.{◌≡◌, ℕ, suc, ◌<◌, ◌≤◌, Bool, true, false, not, List, [], ◌∷◌, ℤ, pos, ◌+ℤ◌, ◌-ℤ◌, ◌*ℤ◌, Some, None, Option, refl, ap, ◌∙◌, ⊎_elim, arith}
 use borrow.Author.Differences.{ints}
 use Rattle.std.proofs.lemmas.Bool.{cases_order, eq-eqb, ne_eqb, le-leb, lt-leb}
+use Rattle.std.proofs.lemmas.List.Sums.{sum_by-cons}
 use Rattle.ledger.specs.Sums.{Σ∈, given}
 use Rattle.kernel.specs.declared.tap.Tap.{Tap}
 use Rattle.ledger.specs.Page.{Page, aimed, hits, waits, off}
 use Rattle.ledger.specs.Ledger.{Trace, D, shares, sent, ends_row, in_hand, pending, sum, quotient, wanted, used, Diffused, taken, laid, carried, edge, kernel, rounding, clipped}
-use Rattle.kernel.specs.Rules.{Shape, over, weights}
+use Rattle.kernel.specs.Rules.{Shape, weights}
 use Rattle.ledger.specs.Laws.{Balanced}
 use Rattle.ledger.proofs.Kernels.{EachAhead, Sound}
 use Rattle.ledger.proofs.Ring.{mul_add, mul_sub, sub_mul, add_mul}
@@ -33,13 +34,13 @@ hand_or_end true z = omega (arith, ints)
 hand_or_end false z = omega (arith, ints)
 
 pub taps_on_or_off : (p : Page) (n : ℕ) (e : ℤ) (ts : List Tap) → 1 ≤ p.width → EachAhead ts →
-    Σ∈ ts (λ t. given (waits (suc n) (aimed p t n)) (pos t.weight *ℤ e)) +ℤ Σ∈ ts (λ t. given (off (aimed p t n)) (pos t.weight *ℤ e)) ≡ pos (over (λ t. t.weight) ts) *ℤ e
+    Σ∈ ts (λ t. given (waits (suc n) (aimed p t n)) (pos t.weight *ℤ e)) +ℤ Σ∈ ts (λ t. given (off (aimed p t n)) (pos t.weight *ℤ e)) ≡ pos (weights ts) *ℤ e
 taps_on_or_off p n e [] h a = omega (arith, ints)
 taps_on_or_off p n e (t ∷ ts) h a =
     let one = on_or_off (aimed p t n) n (pos t.weight *ℤ e) (λ m i. aims_later p t n m h a.0 i) in
     let more = taps_on_or_off p n e ts h a.1 in
-    let both = add_mul (pos t.weight) (pos (over (λ t. t.weight) ts)) e in
-    omega (arith, ints)
+    let both = add_mul (pos t.weight) (pos (weights ts)) e in
+    rw (sum_by-cons (λ (t : Tap). t.weight) t ts) (omega (arith, ints))
 
 -- What one cell adds to the two sides of the balance. Its taps send `on` to cells of the page and `out` off it; its rest is `hand` or `end`; carried goes from c to c'.
 entry_sums : (A x q u y on out hand end c : ℤ) → hand +ℤ end ≡ A -ℤ q →

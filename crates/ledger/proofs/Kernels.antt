@@ -2,6 +2,7 @@
 use Rattle.std.proofs.Common.{◌≡◌, ℕ, zero, suc, ◌<◌, ◌≤◌, Bool, true, false, cond, ◌&&◌, ◌||◌, ltb, leb, List, [], ◌∷◌, length, get_or, ℤ, pos, neg_ℤ, ◌≤ℤ◌, Some, sym, refl, arith}
 use lib.Signed.{le_z}
 use borrow.Author.Differences.{ints}
+use Rattle.std.proofs.lemmas.List.Sums.{get_or-le-sum_by}
 use Rattle.std.proofs.lemmas.Bool.{and_parts, leb-true, true≢false}
 use Rattle.kernel.specs.declared.tap.Tap.{Tap}
 use Rattle.kernel.specs.Rules.{Shape, rows_down, columns_aside, most_divisor, fits, rises, origin, first_bad, weights, none, divisor_fits, count_fits, valid}
@@ -72,6 +73,4 @@ reach_at L (s ∷ ts) zero t a l = a.0
 reach_at L (s ∷ ts) (suc i) t a l = reach_at L ts i t a.1 (omega arith)
 
 pub weight_at : (ts : List Tap) (i : ℕ) (t : Tap) → i < length ts → (get_or ts i t).weight ≤ weights ts
-weight_at [] i t l = absurd (omega arith)
-weight_at (s ∷ ts) zero t l = omega arith
-weight_at (s ∷ ts) (suc i) t l = omega (arith, weight_at ts i t (omega arith))
+weight_at ts i t l = get_or-le-sum_by (λ (t : Tap). t.weight) ts i t l

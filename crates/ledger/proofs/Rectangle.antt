@@ -1,13 +1,15 @@
 -- The sum of D × (x - y) over a rectangle. Cell by cell it is (D - W) × e, plus what the cell sends less what it is sent, plus its rest less the rest it was handed. What is sent within the rectangle cancels: for each tap, errors moved by its columns and rows differ from those in place only near the sides. Rests telescope along each row.
+use Rattle.std.specs.List.{sum_by}
 use Rattle.std.proofs.Common.{◌≡◌, ℕ, zero, suc, ◌+◌, ◌-◌, ◌*◌, ◌%◌, ◌<◌, ◌≤◌, Bool, true, false, cond, ltb, List, [], ◌∷◌, ℤ, pos, ◌+ℤ◌, ◌-ℤ◌, ◌*ℤ◌, neg_ℤ, nat_abs, sym, refl, ap, ◌∙◌, mul-le-mul_left, arith}
 use borrow.Author.Differences.{ints}
 use Rattle.std.proofs.lemmas.Bool.{ltb-true, lt-ltb, ne_eqb}
 use Rattle.std.proofs.lemmas.Nat.{mod-mul-add}
+use Rattle.std.proofs.lemmas.List.Sums.{sum_by-cons}
 use Rattle.ledger.specs.Sums.{Σ<, Σ∈, given}
 use Rattle.kernel.specs.declared.tap.Tap.{Tap}
 use Rattle.ledger.specs.Page.{Page, backward, cells, number, ahead}
 use Rattle.ledger.specs.Ledger.{Trace, in_hand, pending, quotient, wanted, used, Diffused}
-use Rattle.kernel.specs.Rules.{Shape, over, weights}
+use Rattle.kernel.specs.Rules.{Shape, weights}
 use Rattle.ledger.specs.Laws.{across, downward, Rectangle, inside, RectanglesWithin}
 use Rattle.ledger.proofs.Kernels.{Sound}
 use Rattle.ledger.proofs.Ring.{mul_sub, sub_mul, add_mul, abs_add, abs_sub, abs_pos_mul}
@@ -73,24 +75,24 @@ weighted_swap n ts g = ΣSwap n ts (λ t i. pos t.weight *ℤ g t i) ∙ Σ∈Ex
 weighted_grid : (h w : ℕ) (ts : List Tap) (g : Tap → ℕ → ℕ → ℤ) → grid h w (λ i j. Σ∈ ts (λ t. pos t.weight *ℤ g t i j)) ≡ Σ∈ ts (λ t. pos t.weight *ℤ grid h w (g t))
 weighted_grid h w ts g = ΣExt h _ _ (λ i l. weighted_swap w ts (λ t j. g t i j)) ∙ weighted_swap h ts (λ t i. Σ< w (g t i))
 
-less_taps : (ts : List Tap) (z : ℤ) (g : Tap → ℤ) → pos (over (λ t. t.weight) ts) *ℤ z -ℤ Σ∈ ts (λ t. pos t.weight *ℤ g t) ≡ Σ∈ ts (λ t. pos t.weight *ℤ (z -ℤ g t))
+less_taps : (ts : List Tap) (z : ℤ) (g : Tap → ℤ) → pos (weights ts) *ℤ z -ℤ Σ∈ ts (λ t. pos t.weight *ℤ g t) ≡ Σ∈ ts (λ t. pos t.weight *ℤ (z -ℤ g t))
 less_taps [] z g = omega (arith, ints)
 less_taps (t ∷ ts) z g =
-    rw (add_mul (pos t.weight) (pos (over (λ t. t.weight) ts)) z, mul_sub (pos t.weight) z (g t), ← less_taps ts z g)
-    (apart (pos t.weight *ℤ z) (pos (over (λ t. t.weight) ts) *ℤ z) (pos t.weight *ℤ g t) (Σ∈ ts (λ t. pos t.weight *ℤ g t)))
+    rw (sum_by-cons (λ (t : Tap). t.weight) t ts, add_mul (pos t.weight) (pos (weights ts)) z, mul_sub (pos t.weight) z (g t), ← less_taps ts z g)
+    (apart (pos t.weight *ℤ z) (pos (weights ts) *ℤ z) (pos t.weight *ℤ g t) (Σ∈ ts (λ t. pos t.weight *ℤ g t)))
   where
     apart : (a b c d : ℤ) → a +ℤ b -ℤ (c +ℤ d) ≡ a -ℤ c +ℤ (b -ℤ d)
     apart a b c d = omega (arith, ints)
 
 all_taps_abs : (ts : List Tap) (g : Tap → ℤ) (h w E : ℕ) → ((t : Tap) → nat_abs (g t) ≤ 2 * t.down * (w * E) + h * (2 * nat_abs t.ahead * E)) →
-    nat_abs (Σ∈ ts (λ t. pos t.weight *ℤ g t)) ≤ 2 * E * (over (λ t. t.weight * nat_abs t.ahead) ts * h + over (λ t. t.weight * t.down) ts * w)
+    nat_abs (Σ∈ ts (λ t. pos t.weight *ℤ g t)) ≤ 2 * E * (sum_by (λ (t : Tap). t.weight * nat_abs t.ahead) ts * h + sum_by (λ (t : Tap). t.weight * t.down) ts * w)
 all_taps_abs [] g h w E b = omega arith
 all_taps_abs (t ∷ ts) g h w E b =
     let one = abs_pos_mul t.weight (g t) in
     let times = mul-le-mul_left t.weight (b t) in
     let more = all_taps_abs ts g h w E b in
     let both = abs_add (pos t.weight *ℤ g t) (Σ∈ ts (λ t. pos t.weight *ℤ g t)) in
-    omega arith
+    rw (sum_by-cons (λ (t : Tap). t.weight * nat_abs t.ahead) t ts, sum_by-cons (λ (t : Tap). t.weight * t.down) t ts) (omega arith)
 
 -- ---- the rests along a row
 module _ (p : Page) (K : Shape) (s : Trace) (n : ℕ) (w : 1 ≤ p.width) (B : ℕ) (small : (k : ℕ) → k < n → nat_abs (s.rest k) ≤ B) where

@@ -2,11 +2,12 @@
 use Rattle.std.proofs.Common.{◌≡◌, ℕ, ◌+◌, ◌-◌, ◌*◌, ◌<◌, ◌≤◌, Bool, true, false, not, ltb, List, [], ◌∷◌, ℤ, pos, negsuc, ◌+ℤ◌, ◌-ℤ◌, ◌*ℤ◌, nat_abs, Some, None, Option, sym, refl, ap, ◌∙◌, ⊎_elim, mul-le-mul_left, arith}
 use borrow.Author.Differences.{ints}
 use Rattle.std.proofs.lemmas.Bool.{cases_lt, true≢false, eqb-true, eq-eqb, lt-ltb, ltb-true, ltb-false}
+use Rattle.std.proofs.lemmas.List.Sums.{sum_by-cons}
 use Rattle.ledger.specs.Sums.{Σ<, Σ∈, given}
 use Rattle.kernel.specs.declared.tap.Tap.{Tap}
 use Rattle.ledger.specs.Page.{Page, backward, cells, row, column, number, cell_at, ahead, aimed, hits}
 use Rattle.ledger.specs.Ledger.{Trace, sent, pending}
-use Rattle.kernel.specs.Rules.{Shape, over, weights}
+use Rattle.kernel.specs.Rules.{Shape, weights}
 use Rattle.ledger.proofs.Kernels.{EachAhead}
 use Rattle.ledger.proofs.Ring.{abs_add, abs_pos_mul}
 use Rattle.ledger.proofs.Sums.{ΣExt, ΣZero, ΣAdd, ΣMul, ΣOne, ΣNone}
@@ -145,14 +146,14 @@ unfolding pending sent
 brought_is p K s n k w a l m = brought_by p s.error k n k K.taps w l (sooner p n k K.taps w a m)
 
 -- its size
-pub taps_abs : (ts : List Tap) (g : Tap → ℤ) (E : ℕ) → ((t : Tap) → nat_abs (g t) ≤ E) → nat_abs (Σ∈ ts (λ t. pos t.weight *ℤ g t)) ≤ over (λ t. t.weight) ts * E
+pub taps_abs : (ts : List Tap) (g : Tap → ℤ) (E : ℕ) → ((t : Tap) → nat_abs (g t) ≤ E) → nat_abs (Σ∈ ts (λ t. pos t.weight *ℤ g t)) ≤ weights ts * E
 taps_abs [] g E h = omega arith
 taps_abs (t ∷ ts) g E h =
     let one = abs_pos_mul t.weight (g t) in
     let times = mul-le-mul_left t.weight (h t) in
     let more = taps_abs ts g E h in
     let both = abs_add (pos t.weight *ℤ g t) (Σ∈ ts (λ t. pos t.weight *ℤ g t)) in
-    omega arith
+    rw (sum_by-cons (λ (t : Tap). t.weight) t ts) (omega arith)
 
 -- at a done cell
 pub error_at_done : (p : Page) (e : ℕ → ℤ) (n r c : ℕ) → r < p.height → c < p.width → number p r c < n → error_at p e n (pos r) (pos c) ≡ e (number p r c)

@@ -2,6 +2,7 @@
 use Rattle.std.proofs.Common.{◌≡◌, ℕ, zero, suc, ◌+◌, ◌*◌, ◌<◌, ◌≤◌, Bool, true, false, List, [], ◌∷◌, length, get_or, take, ℤ, pos, ◌+ℤ◌, ◌*ℤ◌, nat_abs, Option, refl, ⊎_elim, mul-le-mul_right, mul-le-mul_left, arith}
 use borrow.Author.Differences.{ints}
 use Rattle.std.proofs.lemmas.Bool.{cases_lt}
+use Rattle.std.proofs.lemmas.List.Sums.{sum_by-take-le, sum_by-cons}
 use Rattle.kernel.specs.declared.tap.Tap.{Tap}
 use Rattle.kernel.specs.Rules.{Shape, weights}
 use Rattle.ledger.specs.Sums.{Σ∈, given}
@@ -72,19 +73,13 @@ sent_abs p (t ∷ ts) test j e =
     let more = sent_abs p ts test j e in
     let both = abs_add (given (test (aimed p t j)) (pos t.weight *ℤ e)) (Σ∈ ts (λ t. given (test (aimed p t j)) (pos t.weight *ℤ e))) in
     let one = given_abs (test (aimed p t j)) (pos t.weight *ℤ e) (t.weight * nat_abs e) (omega (arith, abs_pos_mul t.weight e)) in
-    omega arith
-
-over_take : (ts : List Tap) (i : ℕ) → weights (take i ts) ≤ weights ts
-over_take [] zero = omega arith
-over_take [] (suc i) = omega arith
-over_take (t ∷ ts) zero = omega arith
-over_take (t ∷ ts) (suc i) = omega (arith, over_take ts i)
+    rw (sum_by-cons (λ (t : Tap). t.weight) t ts) (omega arith)
 
 -- by the first i taps
 pub sent_take_abs : (p : Page) (ts : List Tap) (test : Option ℕ → Bool) (j : ℕ) (e : ℤ) (i W E : ℕ) → weights ts ≤ W → nat_abs e ≤ E → nat_abs (sent p (take i ts) test j e) ≤ W * E
 sent_take_abs p ts test j e i W E h l =
     let a = sent_abs p (take i ts) test j e in
-    let b = mul-le-mul_right (nat_abs e) (over_take ts i) in
+    let b = mul-le-mul_right (nat_abs e) (sum_by-take-le (λ (t : Tap). t.weight) ts i) in
     let c = mul-le-mul_right (nat_abs e) h in
     let d = mul-le-mul_left W l in
     omega arith

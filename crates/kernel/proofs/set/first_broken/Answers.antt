@@ -1,23 +1,20 @@
-use Rattle.std.proofs.Common.{rules}
-use Rattle.std.proofs.lemmas.List.{at_drop_all}
-use Rattle.kernel.specs.Rules.{first_bad}
-use Rattle.kernel.proofs.Walks.{walk_on, walk_stops}
+use Rattle.std.proofs.Common.{◌≡◌, Some, ◌∙◌, rules, tests}
+use Rattle.std.proofs.lemmas.Iterator.{YieldsList-from_slice, YieldsList-from_zip}
+use Rattle.std.proofs.lemmas.Iterator.Adapters.{YieldsList-from_once}
+use Rattle.std.proofs.lemmas.Iterator.Consumers.{YieldsList-from_chain, YieldsList-from_copied}
+use Rattle.std.proofs.lemmas.Iterator.Search.{position_from_yields_List}
+use Rattle.kernel.specs.Rules.{origin, first_bad}
+use Rattle.kernel.proofs.Neighbours.{broken, first_bad-position}
 use Rattle.kernel.proofs.set.first_broken.Goals as goal
-
-pub loop-i-preserved : goal.loop-i-preserved
-loop-i-preserved c =
-    let s = walk_on c.loop-i.before c.args.taps.now c.loop-i.i c.loop-i-test.true in
-    search (rules, s)
-
-pub returns-then-not-keeps_rules : goal.returns-then-not-keeps_rules
-returns-then-not-keeps_rules c =
-    let s = walk_stops c.loop-i.before c.args.taps.now c.loop-i.i c.loop-i-test.true in
-    let k = s (search rules) in
-    let inv = c.loop-i.invariant in
-    cc
 
 pub returns : goal.returns
 returns c =
-    let k = at_drop_all (first_bad c.loop-i.before c.loop-i.i) c.args.taps.now c.loop-i.i c.loop-i-test.false in
-    let inv = c.loop-i.invariant in
-    cc
+    let ts = c.args.taps.now in
+    let told : c.position.result ≡ first_bad origin 0 ts =
+    position_from_yields_List broken c.position.new.self _ c.position.result c.position.ensures.ran
+    (YieldsList-from_zip
+    (YieldsList-from_chain (YieldsList-from_once (Some origin) (cc)) (YieldsList-from_copied (YieldsList-from_slice ts (cc))) (cc) (cc))
+    (YieldsList-from_slice ts (cc)))
+    (λ x b q k. search (rules, tests))
+    ∙ first_bad-position ts in
+    search rules
