@@ -17,14 +17,12 @@ pub fn read<'a, T: PageTone>(bytes: &'a [u8]) -> Result<Reader<'a, T>, PageFault
     ensures outcome { Reading T.PageTone.letter bytes.now (came_to result) }
     ensures stands { StandsOn bytes.now result }
 {
-    match open(bytes, T::page_letter()) {
-        Ok(header) => Ok(Reader {
-            bytes,
-            header,
-            kind: PhantomData,
-        }),
-        Err(fault) => Err(fault),
-    }
+    let header = open(bytes, T::page_letter())?;
+    Ok(Reader {
+        bytes,
+        header,
+        kind: PhantomData,
+    })
 }
 
 // The tone whose samples begin at a byte.
@@ -55,23 +53,21 @@ impl<'a, T: Tone> Source<T> for Reader<'a, T> {
     }
 
     fn at(&self, row: usize, column: usize) -> Result<T, Fault> {
-        if row >= self.header.height as usize || column >= self.header.width as usize {
-            return Err(Fault::Outside(Spot {
-                layer: 0,
-                row,
-                column,
-            }));
+        let spot = Spot {
+            layer: 0,
+            row,
+            column,
+        };
+        let width = usize::from(self.header.width);
+        if row >= usize::from(self.header.height) || column >= width {
+            return Err(Fault::Outside(spot));
         }
         let n = T::channels();
-        let skip = (row * self.header.width as usize + column) * n;
+        let skip = (row * width + column) * n;
         if self.header.raster > self.bytes.len()
             || self.bytes.len() - self.header.raster < skip + n
         {
-            return Err(Fault::Missing(Spot {
-                layer: 0,
-                row,
-                column,
-            }));
+            return Err(Fault::Missing(spot));
         }
         Ok(tone_at(self.bytes, self.header.raster + skip))
     }
