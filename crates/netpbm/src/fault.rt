@@ -1,6 +1,9 @@
 // Why the bytes are no page.
-ghost use Rattle.std.specs.Prelude.{◌≡◌};
+ghost use Rattle.std.specs.Prelude.{◌≡◌, ◌++◌, Some, codes, decimal};
 ghost use Rattle.netpbm.specs.Refusals.{told};
+
+use std::error::Error;
+use std::fmt;
 
 // A field's fault has the byte where that field began, at its white space.
 #[derive(Clone, Copy, PartialEq, Eq, Debug)]
@@ -15,24 +18,16 @@ pub enum PageFault {
     Maximum(usize),
 }
 
-const LETTERS: u8 = 15;
-
-const FIELD: u8 = 16;
-
-const SIZE: u8 = 17;
-
-const MAXIMUM: u8 = 18;
-
 impl PageFault {
     // The fault's number.
     pub fn number(&self) -> u8
         ensures { result ≡ (told self.now).number }
     {
         match self {
-            PageFault::Letters => LETTERS,
-            PageFault::Field(_) => FIELD,
-            PageFault::Size(_) => SIZE,
-            PageFault::Maximum(_) => MAXIMUM,
+            PageFault::Letters => 15,
+            PageFault::Field(_) => 16,
+            PageFault::Size(_) => 17,
+            PageFault::Maximum(_) => 18,
         }
     }
 
@@ -42,9 +37,18 @@ impl PageFault {
     {
         match self {
             PageFault::Letters => 0,
-            PageFault::Field(at) => *at,
-            PageFault::Size(at) => *at,
-            PageFault::Maximum(at) => *at,
+            PageFault::Field(at) | PageFault::Size(at) | PageFault::Maximum(at) => *at,
         }
     }
 }
+
+// The fault's number and byte.
+impl fmt::Display for PageFault {
+    ghost output = { λ e. Some (decimal (told e).number ++ codes " at byte " ++ decimal (told e).byte) };
+
+    fn fmt<W: fmt::Write>(&self, f: &mut fmt::Formatter<W>) -> fmt::Result {
+        write!(f, "{} at byte {}", self.number(), self.byte())
+    }
+}
+
+impl Error for PageFault {}

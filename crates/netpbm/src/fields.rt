@@ -1,141 +1,149 @@
 // The fields of a header. A field is white space, then a number of one to five digits; a field that
 // is refused leaves the reading place where it began.
-ghost use Rattle.std.specs.Prelude.{◌≡◌, ℕ, ◌+◌, ◌<◌, ◌≤◌, Bool, MatchOption, MatchResult};
-ghost use Rattle.netpbm.specs.Fields.{white, digit, after_white, Number, NoNumber, Field, NoField};
+ghost use Rattle.std.specs.Prelude.{◌≡◌, ℕ, ◌+◌, ◌<◌, ◌≤◌, drop, length, true, MatchOption, MatchResult, OnErr};
+ghost use Rattle.std.specs.List.{prefix_len};
+ghost use Rattle.std.specs.Str.{all_ascii_digits};
+ghost use Rattle.netpbm.specs.Fields.{white, digit, after_white, decimal_value, Number, NoNumber, Field, NoField};
 ghost use Rattle.netpbm.specs.Headers.{SizeField, SizeRefused, MaximumField, MaximumRefused};
 ghost use Rattle.netpbm.specs.Refusals.{told};
 
 use crate::fault::PageFault;
 use crate::guard::FieldGuard;
 
-// The largest width and height.
-const LARGEST: u32 = 65535;
-// The most digits of a number.
-const DIGITS: usize = 5;
-// The one maximum that is read: a sample is a byte.
-const FULL: u32 = 255;
+// The bytes of a page file, and the place where reading has come to.
+#[derive(Drop)]
+pub(crate) struct Fields<'a> {
+    pub(crate) bytes: &'a [u8],
+    pub(crate) place: usize,
+}
 
 // Space, tab, CR or LF.
 fn is_white(b: u8) -> bool
     ensures { result ≡ white b }
 {
-    b == b' ' || b == b'\t' || b == b'\r' || b == b'\n'
+    matches!(b, b' ' | b'\t' | b'\r' | b'\n')
 }
 
-fn is_digit(b: u8) -> bool
-    ensures { result ≡ digit b }
+// The number that one to five digits write.
+fn value_of(digits: &[u8]) -> u32
+    requires digits { all_ascii_digits digits.now ≡ true }
+    requires some { 1 ≤ length digits.now }
+    requires few { length digits.now ≤ 5 }
+    ensures { result ≡ decimal_value digits.now }
 {
-    b >= b'0' && b <= b'9'
+    str::from_utf8(digits).unwrap().parse().unwrap()
 }
 
-// Where the white space that starts at `from` ends.
-fn white_end(bytes: &[u8], from: usize) -> usize
-    ensures { result ≡ after_white bytes.now from }
-{
-    let mut i = from;
-    while i < bytes.len() && is_white(bytes[i]) {
-        i += 1;
+impl Fields<'_> {
+    // How many white bytes stand from the place on.
+    fn count_white(&self) -> usize
+        ensures { result ≡ prefix_len white (drop self.now.place self.now.bytes.now) }
+    {
+        let rest = self.bytes.iter().skip(self.place);
+        rest.take_while(|b| is_white(**b)).count()
     }
-    i
-}
 
-// The number whose digits start at `from`, and where they end.
-fn number(bytes: &[u8], from: usize) -> Option<(u32, usize)>
-    ensures { MatchOption result (NoNumber bytes.now from) (λ x. Number bytes.now from x.0 x.1) }
-{
-    let mut n: u32 = 0;
-    let mut end = from;
-    while end < bytes.len() && is_digit(bytes[end]) {
-        if end - from >= DIGITS {
+    // How many digits stand from the place on.
+    fn count_digits(&self) -> usize
+        ensures { result ≡ prefix_len digit (drop self.now.place self.now.bytes.now) }
+    {
+        let rest = self.bytes.iter().skip(self.place);
+        rest.take_while(|b| b.is_ascii_digit()).count()
+    }
+
+    // Goes past the white space at the place, if there is some.
+    fn skip_white(&mut self) -> Option<()>
+        ensures bytes { self.new.bytes.now ≡ self.old.bytes.now }
+        ensures place { MatchOption result
+            (after_white self.old.bytes.now self.old.place ≡ self.old.place)
+            (λ _. (self.new.place ≡ after_white self.old.bytes.now self.old.place) × (self.old.place < self.new.place)) }
+    {
+        let white @ 1.. = self.count_white() else {
             return None;
+        };
+        self.place += white;
+        Some(())
+    }
+
+    // Goes past the number at the place, if there is one, and answers its value.
+    fn number(&mut self) -> Option<u32>
+        ensures bytes { self.new.bytes.now ≡ self.old.bytes.now }
+        ensures value { MatchOption result
+            (NoNumber self.old.bytes.now self.old.place)
+            (λ v. Number self.old.bytes.now self.old.place v self.new.place) }
+    {
+        let digits @ 1..=5 = self.count_digits() else {
+            return None;
+        };
+        let end = self.place + digits;
+        let value = value_of(&self.bytes[self.place..end]);
+        self.place = end;
+        Some(value)
+    }
+
+    // The field at the place.
+    fn field(&mut self) -> Result<u32, PageFault>
+        ensures bytes { self.new.bytes.now ≡ self.old.bytes.now }
+        ensures back { OnErr result (self.new.place ≡ self.old.place) }
+        ensures field { MatchResult result
+            (λ v. Field self.old.bytes.now self.old.place v self.new.place)
+            (λ e. (e ≡ PageFault.Field self.old.place) × NoField self.old.bytes.now self.old.place) }
+    {
+        let start = self.place;
+        let guard = FieldGuard {
+            fields: self,
+            start,
+        };
+        guard.fields.skip_white().ok_or(PageFault::Field(start))?;
+        let value = guard.fields.number().ok_or(PageFault::Field(start))?;
+        guard.accept();
+        Ok(value)
+    }
+
+    // A width or a height.
+    pub(crate) fn size(&mut self) -> Result<u16, PageFault>
+        ensures bytes { self.new.bytes.now ≡ self.old.bytes.now }
+        ensures back { OnErr result (self.new.place ≡ self.old.place) }
+        ensures size { MatchResult result
+            (λ v. SizeField self.old.bytes.now self.old.place v self.new.place)
+            (λ e. ((told e).byte ≡ self.old.place) × SizeRefused self.old.bytes.now self.old.place (told e).number) }
+    {
+        let start = self.place;
+        let guard = FieldGuard {
+            fields: self,
+            start,
+        };
+        let value = guard.fields.field()?;
+        let Ok(size @ 1..) = u16::try_from(value) else {
+            return Err(PageFault::Size(start));
+        };
+        guard.accept();
+        Ok(size)
+    }
+
+    // The maximum with the white byte after it, which the place goes past: the samples begin there.
+    pub(crate) fn maximum(&mut self) -> Result<(), PageFault>
+        ensures bytes { self.new.bytes.now ≡ self.old.bytes.now }
+        ensures back { OnErr result (self.new.place ≡ self.old.place) }
+        ensures maximum { MatchResult result
+            (λ _. MaximumField self.old.bytes.now self.old.place self.new.place)
+            (λ e. ((told e).byte ≡ self.old.place) × MaximumRefused self.old.bytes.now self.old.place (told e).number) }
+    {
+        let start = self.place;
+        let guard = FieldGuard {
+            fields: self,
+            start,
+        };
+        let value = guard.fields.field()?;
+        let end = guard.fields.place;
+        if !guard.fields.bytes.get(end).is_some_and(|b| is_white(*b)) {
+            return Err(PageFault::Field(start));
         }
-        n = n * 10 + u32::from(bytes[end] - b'0');
-        end += 1;
+        if value != 255 {
+            return Err(PageFault::Maximum(start));
+        }
+        guard.fields.place = end + 1;
+        guard.accept();
+        Ok(())
     }
-    if end == from {
-        return None;
-    }
-    Some((n, end))
-}
-
-// Goes past the white space at the place, of which there is some; `start` is the byte to tell.
-fn skip_white(bytes: &[u8], place: &mut usize, start: usize) -> Result<(), PageFault>
-    ensures { MatchResult result
-        (λ _. (place.new ≡ after_white bytes.now place.old) × (place.old < place.new))
-        (λ e. (e ≡ PageFault.Field start) × (place.new ≡ place.old)
-        × (after_white bytes.now place.old ≡ place.old)) }
-{
-    let end = white_end(bytes, *place);
-    if end == *place {
-        return Err(PageFault::Field(start));
-    }
-    *place = end;
-    Ok(())
-}
-
-// Reads the number at the place, and goes past it.
-fn read_number(bytes: &[u8], place: &mut usize, start: usize) -> Result<u32, PageFault>
-    ensures { MatchResult result
-        (λ v. Number bytes.now place.old v place.new)
-        (λ e. (e ≡ PageFault.Field start) × (place.new ≡ place.old)
-        × NoNumber bytes.now place.old) }
-{
-    let Some((v, end)) = number(bytes, *place) else {
-        return Err(PageFault::Field(start));
-    };
-    *place = end;
-    Ok(v)
-}
-
-// The field at the place.
-fn field(bytes: &[u8], place: &mut usize) -> Result<u32, PageFault>
-    ensures { MatchResult result
-        (λ v. Field bytes.now place.old v place.new)
-        (λ e. (e ≡ PageFault.Field place.old) × (place.new ≡ place.old) × NoField bytes.now place.old) }
-{
-    let start = *place;
-    let guard = FieldGuard { place, start };
-    skip_white(bytes, guard.place, start)?;
-    let v = read_number(bytes, guard.place, start)?;
-    guard.accept();
-    Ok(v)
-}
-
-// A width or a height.
-pub(crate) fn size_field(bytes: &[u8], place: &mut usize) -> Result<u16, PageFault>
-    ensures { MatchResult result
-        (λ v. SizeField bytes.now place.old v place.new)
-        (λ e. (place.new ≡ place.old) × ((told e).byte ≡ place.old)
-        × SizeRefused bytes.now place.old (told e).number) }
-{
-    let start = *place;
-    let guard = FieldGuard { place, start };
-    let v = field(bytes, guard.place)?;
-    if v < 1 || v > LARGEST {
-        return Err(PageFault::Size(start));
-    }
-    guard.accept();
-    Ok(v as u16)
-}
-
-// The maximum with the white byte after it, which the place goes past: the samples begin there.
-pub(crate) fn maximum_field(bytes: &[u8], place: &mut usize) -> Result<(), PageFault>
-    ensures { MatchResult result
-        (λ _. MaximumField bytes.now place.old place.new)
-        (λ e. (place.new ≡ place.old) × ((told e).byte ≡ place.old)
-        × MaximumRefused bytes.now place.old (told e).number) }
-{
-    let start = *place;
-    let guard = FieldGuard { place, start };
-    let v = field(bytes, guard.place)?;
-    let end = *guard.place;
-    if end >= bytes.len() || !is_white(bytes[end]) {
-        return Err(PageFault::Field(start));
-    }
-    if v != FULL {
-        return Err(PageFault::Maximum(start));
-    }
-    *guard.place = end + 1;
-    guard.accept();
-    Ok(())
 }

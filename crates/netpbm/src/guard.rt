@@ -1,26 +1,35 @@
 // The guard over the reading place.
 ghost use Rattle.std.specs.Prelude.{◌≡◌, ℕ};
 
+use crate::fields::Fields;
+
 // Puts the reading place back where the field began, on each way out, unless the field is accepted.
-pub(crate) struct FieldGuard<'a> {
-    pub(crate) place: &'a mut usize,
+// It is written out where it is made: after a constructor the checker does not know which cursor it is over.
+pub(crate) struct FieldGuard<'c, 'a> {
+    pub(crate) fields: &'c mut Fields<'a>,
     pub(crate) start: usize,
 }
 
-impl Drop for FieldGuard<'_> {
+impl Drop for FieldGuard<'_, '_> {
     fn drop(self)
-        ensures { self.exit.0.now ≡ self.entry.start }
+        ensures { self.exit.0.now ≡ record self.entry.fields.now { place = self.entry.start } }
     {
-        *self.place = self.start;
-        let FieldGuard { place: _, start: _ } = self;
+        self.fields.place = self.start;
+        let FieldGuard {
+            fields: _,
+            start: _,
+        } = self;
     }
 }
 
-impl FieldGuard<'_> {
+impl FieldGuard<'_, '_> {
     // Leaves the place where reading has come to.
     pub(crate) fn accept(self)
-        ensures { self.exit.0.now ≡ self.entry.place.now }
+        ensures { self.exit.0.now ≡ self.entry.fields.now }
     {
-        let FieldGuard { place: _, start: _ } = self;
+        let FieldGuard {
+            fields: _,
+            start: _,
+        } = self;
     }
 }

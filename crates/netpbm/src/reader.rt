@@ -18,14 +18,12 @@ pub fn read<'a, T: PageTone>(bytes: &'a [u8]) -> Result<Reader<'a, T>, PageFault
     ensures outcome { Reading T.PageTone.letter bytes.now (came_to result) }
     ensures stands { StandsOn bytes.now result }
 {
-    match open(bytes, T::page_letter()) {
-        Ok(header) => Ok(Reader {
-            bytes,
-            header,
-            kind: PhantomData,
-        }),
-        Err(fault) => Err(fault),
-    }
+    let header = open(bytes, T::page_letter())?;
+    Ok(Reader {
+        bytes,
+        header,
+        kind: PhantomData,
+    })
 }
 
 // The tone whose samples begin at a byte.

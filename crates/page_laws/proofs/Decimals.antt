@@ -1,17 +1,13 @@
 -- A number written in decimal, between a white byte and a byte that is no digit, is a field of its value.
-use Rattle.std.proofs.Common.{◌≡◌, ℕ, ◌+◌, ◌-◌, ◌*◌, ◌^◌, ◌<◌, true, false, List, [], ◌∷◌, ◌++◌, length, take, drop, codes, decimal, fold, sym, refl, ap, ◌∙◌, not-suc-le-zero, one-add, arith, rules}
+use Rattle.std.proofs.Common.{◌≡◌, ℕ, ◌+◌, ◌-◌, ◌^◌, ◌<◌, true, false, List, [], ◌∷◌, ◌++◌, length, take, drop, codes, decimal, sym, refl, ap, ◌∙◌, not-suc-le-zero, one-add, arith}
 use Rattle.std.proofs.lemmas.Fmt.{decimal_step, decimal_digit, digits_value-decimal, length-decimal-le, decimal_nonempty, digits_decimal}
 use Rattle.std.proofs.lemmas.List.{drop_at, drop-drop, take_at}
-use Rattle.std.proofs.lemmas.Str.Parse.{IsNumeralModel, numerals_by_fold, tells_all_ascii_digits}
 use Rattle.std.proofs.lemmas.Bool.{and_parts}
 use Rattle.std.proofs.lemmas.Bool.Decides.{nat_tests}
 use Rattle.std.specs.List.{between, prefix_len}
 use Rattle.std.specs.Str.{all_ascii_digits}
+use Rattle.netpbm.proofs.Digits.{own}
 use Rattle.netpbm.specs.Fields.{white, digit, decimal_value, after_white, after_digits, Field}
-
--- the reader's value of digits is that of std's numerals
-own : IsNumeralModel (λ ds. all_ascii_digits ds ≡ true) (fold (λ n c. n * 10 + (c - 48)) 0)
-own = numerals_by_fold _ tells_all_ascii_digits (λ n ds. fold (λ n c. n * 10 + (c - 48)) n ds) (search rules)
 
 all_decimal : (n : ℕ) → n < 2 ^ 64 → all_ascii_digits (decimal n) ≡ true
 all_decimal n h = digits_decimal own n h

@@ -42,7 +42,7 @@ impl<T: Tone> Source<T> for Flat<T> {
     }
 
     fn at(&self, row: usize, column: usize) -> Result<T, Fault> {
-        if row >= self.height as usize || column >= self.width as usize {
+        if row >= usize::from(self.height) || column >= usize::from(self.width) {
             return Err(Fault::Outside(Spot {
                 layer: self.layer,
                 row,

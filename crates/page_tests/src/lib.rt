@@ -2,8 +2,8 @@
 // Netpbm reader together, through their public calls alone. Every expected value is worked out by
 // hand from the rules.
 //
-// The crate itself holds what the tests need: `Seen`, an answer in a form that a table can hold, two
-// kinds of tone that no other crate knows, and a bottom with a layer number of its own.
+// The crate itself holds what the tests need: `Seen` and `Outcome`, answers in a form that a table can
+// hold, two kinds of tone that no other crate knows, and a bottom with a layer number of its own.
 #![tactic(auto)]
 
 pub mod flat;
@@ -14,6 +14,8 @@ pub mod seen;
 mod test_charts;
 #[cfg(test)]
 mod test_crops;
+#[cfg(test)]
+mod test_faults;
 #[cfg(test)]
 mod test_headers;
 #[cfg(test)]

@@ -1,5 +1,6 @@
 // The chart: 255 × column / (width - 1), rounded down, in every channel.
-use crate::seen::{Seen, ask};
+use crate::seen::ask;
+use crate::test_faults::outside;
 use source::{Chart, Source};
 use tone::{Colour, Grey};
 
@@ -46,18 +47,17 @@ const OUTSIDE: [(u16, u16, usize, usize); 9] = [
 
 #[test]
 fn samples_rise_from_left_to_right(rt: HostRuntime) {
-    for (i, case) in SAMPLES.iter().enumerate() {
-        let (width, column, s) = *case;
+    for (i, &(width, column, s)) in SAMPLES.iter().enumerate() {
         let grey: Chart<Grey> = Chart::new(width, 65535);
         assert_eq!(rt;
             ask::<Grey, _>(&grey, 65534, column),
-            Seen::Samples([s, 0, 0]),
+            Ok([s, 0, 0]),
             "case {i}"
         );
         let colour: Chart<Colour> = Chart::new(width, 1);
         assert_eq!(rt;
             ask::<Colour, _>(&colour, 0, column),
-            Seen::Samples([s, s, s]),
+            Ok([s, s, s]),
             "case {i}"
         );
     }
@@ -65,12 +65,11 @@ fn samples_rise_from_left_to_right(rt: HostRuntime) {
 
 #[test]
 fn a_chart_has_its_own_size(rt: HostRuntime) {
-    for (i, case) in OUTSIDE.iter().enumerate() {
-        let (width, height, row, column) = *case;
+    for (i, &(width, height, row, column)) in OUTSIDE.iter().enumerate() {
         let chart: Chart<Grey> = Chart::new(width, height);
         assert_eq!(rt;
             ask::<Grey, _>(&chart, row, column),
-            Seen::Fault(7, 0, row, column),
+            Err(outside!(0, row, column)),
             "case {i}"
         );
         assert_eq!(rt;

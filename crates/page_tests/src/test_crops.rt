@@ -1,5 +1,6 @@
 // Crop: the window, cut to the page below in each dimension for itself.
 use crate::seen::{Seen, ask};
+use crate::test_faults::outside;
 use netpbm::{Reader, read};
 use source::{Chart, Crop, Source};
 use std::test::Fail;
@@ -11,22 +12,22 @@ const FAR: usize = usize::MAX;
 const PAGE: &[u8] = b"P5 4 3 255\n\x00\x01\x02\x03\x10\x11\x12\x13\x20\x21\x22\x23";
 
 // What the first place of a crop with no place shows.
-const NOTHING: Seen = Seen::Fault(7, 1, 0, 0);
+const NOTHING: Seen = Err(outside!(1, 0, 0));
 
 // Top, left, height and width of a window on that page; height and width that it shows, and its
 // first place.
 const WINDOWS: [([usize; 4], u16, u16, Seen); 20] = [
-    ([0, 0, 3, 4], 3, 4, Seen::Samples([0x00, 0, 0])),
-    ([1, 2, 1, 1], 1, 1, Seen::Samples([0x12, 0, 0])),
-    ([1, 2, 2, 2], 2, 2, Seen::Samples([0x12, 0, 0])),
-    ([2, 1, 1, 3], 1, 3, Seen::Samples([0x21, 0, 0])),
+    ([0, 0, 3, 4], 3, 4, Ok([0x00, 0, 0])),
+    ([1, 2, 1, 1], 1, 1, Ok([0x12, 0, 0])),
+    ([1, 2, 2, 2], 2, 2, Ok([0x12, 0, 0])),
+    ([2, 1, 1, 3], 1, 3, Ok([0x21, 0, 0])),
     // cut at the right and at the bottom
-    ([0, 0, 4, 5], 3, 4, Seen::Samples([0x00, 0, 0])),
-    ([0, 0, 3, 9], 3, 4, Seen::Samples([0x00, 0, 0])),
-    ([1, 0, 3, 4], 2, 4, Seen::Samples([0x10, 0, 0])),
-    ([0, 1, 3, 4], 3, 3, Seen::Samples([0x01, 0, 0])),
-    ([2, 3, 9, 9], 1, 1, Seen::Samples([0x23, 0, 0])),
-    ([1, 1, FAR, FAR], 2, 3, Seen::Samples([0x11, 0, 0])),
+    ([0, 0, 4, 5], 3, 4, Ok([0x00, 0, 0])),
+    ([0, 0, 3, 9], 3, 4, Ok([0x00, 0, 0])),
+    ([1, 0, 3, 4], 2, 4, Ok([0x10, 0, 0])),
+    ([0, 1, 3, 4], 3, 3, Ok([0x01, 0, 0])),
+    ([2, 3, 9, 9], 1, 1, Ok([0x23, 0, 0])),
+    ([1, 1, FAR, FAR], 2, 3, Ok([0x11, 0, 0])),
     // wholly beside the page: the other dimension stays
     ([3, 0, 2, 2], 0, 2, NOTHING),
     ([0, 4, 2, 2], 2, 0, NOTHING),
@@ -54,37 +55,34 @@ const LENGTHS: [(usize, usize, u16); 7] = [
 
 // Questions to the window of two rows and two columns at row 1 and column 1.
 const WITHIN: [(usize, usize, Seen); 11] = [
-    (0, 0, Seen::Samples([0x11, 0, 0])),
-    (0, 1, Seen::Samples([0x12, 0, 0])),
-    (1, 0, Seen::Samples([0x21, 0, 0])),
-    (1, 1, Seen::Samples([0x22, 0, 0])),
+    (0, 0, Ok([0x11, 0, 0])),
+    (0, 1, Ok([0x12, 0, 0])),
+    (1, 0, Ok([0x21, 0, 0])),
+    (1, 1, Ok([0x22, 0, 0])),
     // outside the window, though the page below has the place
-    (0, 2, Seen::Fault(7, 1, 0, 2)),
+    (0, 2, Err(outside!(1, 0, 2))),
     // outside, with the place as it was asked
-    (2, 0, Seen::Fault(7, 1, 2, 0)),
-    (70000, 3, Seen::Fault(7, 1, 70000, 3)),
-    (FAR, 0, Seen::Fault(7, 1, FAR, 0)),
-    (0, FAR, Seen::Fault(7, 1, 0, FAR)),
-    (FAR, FAR, Seen::Fault(7, 1, FAR, FAR)),
-    (FAR - 1, FAR - 1, Seen::Fault(7, 1, FAR - 1, FAR - 1)),
+    (2, 0, Err(outside!(1, 2, 0))),
+    (70000, 3, Err(outside!(1, 70000, 3))),
+    (FAR, 0, Err(outside!(1, FAR, 0))),
+    (0, FAR, Err(outside!(1, 0, FAR))),
+    (FAR, FAR, Err(outside!(1, FAR, FAR))),
+    (FAR - 1, FAR - 1, Err(outside!(1, FAR - 1, FAR - 1))),
 ];
 
 // Questions to a crop at row 1 and column 0, of five rows and five columns, of that window.
 const DEEPER: [(usize, usize, Seen); 5] = [
-    (0, 0, Seen::Samples([0x21, 0, 0])),
-    (0, 1, Seen::Samples([0x22, 0, 0])),
-    (0, 2, Seen::Fault(7, 2, 0, 2)),
-    (1, 0, Seen::Fault(7, 2, 1, 0)),
-    (4, 4, Seen::Fault(7, 2, 4, 4)),
+    (0, 0, Ok([0x21, 0, 0])),
+    (0, 1, Ok([0x22, 0, 0])),
+    (0, 2, Err(outside!(2, 0, 2))),
+    (1, 0, Err(outside!(2, 1, 0))),
+    (4, 4, Err(outside!(2, 4, 4))),
 ];
 
 #[test]
 fn a_window_is_cut_to_the_page(rt: HostRuntime) -> Result<(), Fail> {
-    for (i, case) in WINDOWS.iter().enumerate() {
-        let ([top, left, height, width], high, wide, seen) = *case;
-        let Ok(page) = read::<Grey>(PAGE) else {
-            return Err(Fail::new("no page"));
-        };
+    for (i, &([top, left, height, width], high, wide, seen)) in WINDOWS.iter().enumerate() {
+        let page = read::<Grey>(PAGE)?;
         let crop = Crop::new(page, top, left, height, width);
         assert_eq!(rt; ask::<Grey, _>(&crop, 0, 0), seen, "case {i}");
         assert_eq!(rt; crop.height(), high, "case {i}");
@@ -95,8 +93,7 @@ fn a_window_is_cut_to_the_page(rt: HostRuntime) -> Result<(), Fail> {
 
 #[test]
 fn lengths_are_cut_exactly(rt: HostRuntime) {
-    for (i, case) in LENGTHS.iter().enumerate() {
-        let (from, wanted, shown) = *case;
+    for (i, &(from, wanted, shown)) in LENGTHS.iter().enumerate() {
         let tall: Chart<Grey> = Chart::new(1, 65535);
         assert_eq!(rt;
             Crop::new(tall, from, 0, wanted, 1).height(),
@@ -114,12 +111,9 @@ fn lengths_are_cut_exactly(rt: HostRuntime) {
 
 #[test]
 fn a_window_shows_its_places(rt: HostRuntime) -> Result<(), Fail> {
-    let Ok(page) = read::<Grey>(PAGE) else {
-        return Err(Fail::new("no page"));
-    };
+    let page = read::<Grey>(PAGE)?;
     let crop = Crop::new(page, 1, 1, 2, 2);
-    for (i, case) in WITHIN.iter().enumerate() {
-        let (row, column, seen) = *case;
+    for (i, &(row, column, seen)) in WITHIN.iter().enumerate() {
         assert_eq!(rt; ask::<Grey, _>(&crop, row, column), seen, "case {i}");
     }
     Ok(())
@@ -127,16 +121,13 @@ fn a_window_shows_its_places(rt: HostRuntime) -> Result<(), Fail> {
 
 #[test]
 fn a_crop_of_a_crop(rt: HostRuntime) -> Result<(), Fail> {
-    let Ok(page) = read::<Grey>(PAGE) else {
-        return Err(Fail::new("no page"));
-    };
+    let page = read::<Grey>(PAGE)?;
     let deeper = Crop::new(Crop::new(page, 1, 1, 2, 2), 1, 0, 5, 5);
     assert_eq!(rt;
         (deeper.height(), deeper.width(), deeper.layer()),
         (1, 2, 2)
     );
-    for (i, case) in DEEPER.iter().enumerate() {
-        let (row, column, seen) = *case;
+    for (i, &(row, column, seen)) in DEEPER.iter().enumerate() {
         assert_eq!(rt; ask::<Grey, _>(&deeper, row, column), seen, "case {i}");
     }
     Ok(())
