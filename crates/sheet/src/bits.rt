@@ -5,7 +5,7 @@ ghost use Rattle.sheet.specs.Limits.{max_width, max_height};
 ghost use Rattle.sheet.specs.Memory.{bit_ink, bit_memory, stride};
 
 pub mod calls;
-mod packing;
+pub(crate) mod packing;
 
 #[derive(Drop)]
 pub struct BitSheet<'a> {

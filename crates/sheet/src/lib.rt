@@ -16,6 +16,7 @@ pub const MAX_WIDTH: u16 = 1024;
 pub const MAX_HEIGHT: u16 = 8192;
 
 pub use bits::BitSheet;
+pub use bits::packing::row_bytes;
 pub use bytes::ByteSheet;
 pub use fault::SheetFault;
 pub use marks::{mark, mark_bits, mark_bytes};

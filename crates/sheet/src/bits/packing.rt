@@ -3,11 +3,11 @@ ghost use Rattle.std.specs.Prelude.{◌≡◌, ℕ, ◌+◌, ◌*◌, ◌/◌, �
 ghost use Rattle.std.specs.List.{range_with_len};
 ghost use Rattle.sheet.specs.Memory.{bit, bit_memory, blank, byte_of_row, stride};
 
-// The bytes of a row.
-pub(crate) fn row_bytes(width: u16) -> usize
+// The bytes of a row of packed bits.
+pub fn row_bytes(width: u16) -> usize
     ensures { result ≡ stride width }
 {
-    (width as usize + 7) / 8
+    (width as usize).div_ceil(8)
 }
 
 // The byte b with bit k, counted from the highest, put to `on`.
