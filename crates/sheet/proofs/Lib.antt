@@ -1,6 +1,3 @@
 pub mod Places
-pub mod ByteMemory
-pub mod BitByte
-pub mod BitMemory
+pub mod Packed
 pub mod Trying
-pub mod Ended

@@ -1,39 +1,43 @@
 -- How the inks of a sheet lie in memory.
-use Rattle.std.specs.Prelude.{ℕ, ◌+◌, ◌-◌, ◌*◌, ◌/◌, ◌%◌, ◌^◌, ◌<◌, ◌≤◌, cond, ◌&&◌, List, ◌++◌, map, ◌==◌, nat_lt, slice_index}
-use Rattle.std.proofs.Common.{arith}
+use Rattle.std.specs.Prelude.{ℕ, ◌+◌, ◌-◌, ◌*◌, ◌/◌, ◌%◌, ◌^◌, cond, ◌&&◌, List, ◌++◌, map, ◌==◌, nat_lt, slice_index}
 use Rattle.std.specs.List.{range_with_len}
-use Rattle.sheet.specs.Limits.{max_width, max_height}
 use Rattle.sheet.specs.Meaning.{SheetMeaning}
+use Rattle.sheet.specs.Packing.{PackingMeaning}
 
 -- ink 0 everywhere
 abbrev pub blank : ℕ → ℕ → ℕ
 blank row column = 0
 
--- Bytes: one for each place, row by row.
-
--- the memory of a byte sheet: the inks, and what stands past them
-abbrev pub byte_memory : ℕ → ℕ → (ℕ → ℕ → ℕ) → List ℕ → List ℕ
-byte_memory width height ink past =
-    map (λ k. ink (k / width) (k % width)) (range_with_len 0 (width * height)) ++ past
+-- the memory of a sheet: the packed rows one after the other, and what stands past them
+abbrev pub lent_memory : PackingMeaning → ℕ → ℕ → (ℕ → ℕ → ℕ) → List ℕ → List ℕ
+lent_memory p width height ink past =
+    map (λ k. p.row_byte width ink (k / p.stride width) (k % p.stride width)) (range_with_len 0 (p.stride width * height)) ++ past
 
 -- the ink that the memory holds for a place
-abbrev pub byte_ink : List ℕ → ℕ → ℕ → ℕ → ℕ
-byte_ink memory width row column = slice_index memory (row * width + column)
+abbrev pub lent_ink : PackingMeaning → List ℕ → ℕ → ℕ → ℕ → ℕ
+lent_ink p memory width row column = p.ink_in (slice_index memory (row * p.stride width + p.byte_of column)) column
 
--- what a byte sheet means, by its memory and its size
-abbrev pub byte_meaning : (memory : List ℕ) (width height : ℕ) → width ≤ max_width → height ≤ max_height
-    → ((row column : ℕ) → row < height → column < width → byte_ink memory width row column < 256) → SheetMeaning
-byte_meaning memory width height w h below = record {
-  width = width;
-  height = height;
+-- what the sheet means, by its memory and its size
+abbrev pub lent_meaning : PackingMeaning → List ℕ → ℕ → ℕ → SheetMeaning
+lent_meaning p memory width height = record { width = width; height = height; limit = p.limit; ink = lent_ink p memory width }
+
+-- Bytes: one for each place.
+
+abbrev pub byte_packing : PackingMeaning
+byte_packing = record {
   limit = 256;
-  ink = byte_ink memory width;
-  wide = omega arith;
-  high = omega arith;
-  some = omega arith;
-  few = omega arith;
-  below = below;
+  stride = λ width. width;
+  byte_of = λ column. column;
+  ink_in = λ byte column. byte;
+  row_byte = λ width ink row j. ink row j;
 }
+
+-- the memory and the meaning of a byte sheet
+abbrev pub byte_memory : ℕ → ℕ → (ℕ → ℕ → ℕ) → List ℕ → List ℕ
+byte_memory = lent_memory byte_packing
+
+abbrev pub byte_meaning : List ℕ → ℕ → ℕ → SheetMeaning
+byte_meaning = lent_meaning byte_packing
 
 -- Bits: rows as PBM has them, highest bit first, each row filled to a whole byte with zero bits. Ink 0 is bit 1, black.
 
@@ -57,25 +61,18 @@ byte_of_row width ink row j =
     + 8 * bit_of_place width ink row (8 * j + 4) + 4 * bit_of_place width ink row (8 * j + 5)
     + 2 * bit_of_place width ink row (8 * j + 6) + bit_of_place width ink row (8 * j + 7)
 
--- the memory of a bit sheet: the packed rows, and what stands past them
-abbrev pub bit_memory : ℕ → ℕ → (ℕ → ℕ → ℕ) → List ℕ → List ℕ
-bit_memory width height ink past =
-    map (λ k. byte_of_row width ink (k / stride width) (k % stride width)) (range_with_len 0 (stride width * height)) ++ past
-
--- the ink that the memory holds for a place
-abbrev pub bit_ink : List ℕ → ℕ → ℕ → ℕ → ℕ
-bit_ink memory width row column = 1 - bit (slice_index memory (row * stride width + column / 8)) (column % 8)
-
--- what a bit sheet means, by its memory and its size
-abbrev pub bit_meaning : (memory : List ℕ) (width height : ℕ) → width ≤ max_width → height ≤ max_height → SheetMeaning
-bit_meaning memory width height w h = record {
-  width = width;
-  height = height;
+abbrev pub bit_packing : PackingMeaning
+bit_packing = record {
   limit = 2;
-  ink = bit_ink memory width;
-  wide = omega arith;
-  high = omega arith;
-  some = omega arith;
-  few = omega arith;
-  below = λ row column p q. omega arith;
+  stride = stride;
+  byte_of = λ column. column / 8;
+  ink_in = λ byte column. 1 - bit byte (column % 8);
+  row_byte = byte_of_row;
 }
+
+-- the memory and the meaning of a bit sheet
+abbrev pub bit_memory : ℕ → ℕ → (ℕ → ℕ → ℕ) → List ℕ → List ℕ
+bit_memory = lent_memory bit_packing
+
+abbrev pub bit_meaning : List ℕ → ℕ → ℕ → SheetMeaning
+bit_meaning = lent_meaning bit_packing

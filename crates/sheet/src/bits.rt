@@ -1,20 +1,63 @@
-// A sheet of one bit for each place, in memory that the caller lends: rows as PBM has them, highest bit first,
-// each row filled to a whole byte with zero bits. Ink 0 is bit 1, black.
-ghost use Rattle.std.specs.Prelude.{◌≡◌, ◌*◌, ◌≤◌, length, drop};
-ghost use Rattle.sheet.specs.Limits.{max_width, max_height};
-ghost use Rattle.sheet.specs.Memory.{bit_ink, bit_memory, stride};
+// One bit for each place: rows as PBM has them, highest bit first, each row filled to a whole byte with zero bits.
+// Ink 0 is bit 1, black.
+ghost use Rattle.std.specs.Prelude.{◌≡◌};
+ghost use Rattle.sheet.specs.BitFacts.{bit_laws};
+ghost use Rattle.sheet.specs.Memory.{bit_packing, stride};
 
-pub mod calls;
-mod packing;
+use crate::packings::Packing;
 
-#[derive(Drop)]
-pub struct BitSheet<'a> {
-    rows: &'a mut [u8],
-    width: u16,
-    height: u16,
-    ghost wide: { width ≤ max_width },
-    ghost high: { height ≤ max_height },
-    ghost room: { stride width * height ≤ length rows.now },
-    // the memory is the packed inks, with zero bits at the ends of rows, and then what stands past them
-    ghost packed: { rows.now ≡ bit_memory width height (bit_ink rows.now width) (drop (stride width * height) rows.now) },
+pub struct Bits;
+
+// The bytes of a row of packed bits.
+pub fn row_bytes(width: u16) -> usize
+    ensures { result ≡ stride width }
+{
+    (width as usize).div_ceil(8)
+}
+
+impl Packing for Bits {
+    ghost meaning = { bit_packing };
+
+    ghost laws = { bit_laws };
+
+    fn limit() -> u16 {
+        2
+    }
+
+    fn stride(width: u16) -> usize {
+        row_bytes(width)
+    }
+
+    fn byte_of(column: usize) -> usize {
+        column / 8
+    }
+
+    fn ink_in(byte: u8, column: usize) -> u8 {
+        1 - (byte >> (7 - column % 8)) % 2
+    }
+
+    fn with_ink(byte: u8, column: usize, number: u8) -> u8 {
+        let mask = 1u8 << (7 - column % 8);
+        if number == 0 {
+            byte | mask
+        } else {
+            byte & !mask
+        }
+    }
+
+    fn blank_byte(width: u16, j: usize) -> u8 {
+        if j < width as usize / 8 {
+            return 0b1111_1111;
+        }
+        match width % 8 {
+            1 => 0b1000_0000,
+            2 => 0b1100_0000,
+            3 => 0b1110_0000,
+            4 => 0b1111_0000,
+            5 => 0b1111_1000,
+            6 => 0b1111_1100,
+            7 => 0b1111_1110,
+            _ => 0,
+        }
+    }
 }

@@ -1,17 +1,37 @@
-// A sheet of one byte for each place: cell (r, c) is byte r * width + c of memory that the caller lends.
-ghost use Rattle.std.specs.Prelude.{ℕ, ◌*◌, ◌<◌, ◌≤◌, length};
-ghost use Rattle.sheet.specs.Limits.{max_width, max_height};
-ghost use Rattle.sheet.specs.Memory.{byte_ink};
+// One byte for each place.
+ghost use Rattle.std.proofs.Common.{rules};
+ghost use Rattle.sheet.specs.Memory.{byte_packing};
 
-pub mod calls;
+use crate::packings::Packing;
 
-#[derive(Drop)]
-pub struct ByteSheet<'a> {
-    cells: &'a mut [u8],
-    width: u16,
-    height: u16,
-    ghost wide: { width ≤ max_width },
-    ghost high: { height ≤ max_height },
-    ghost room: { width * height ≤ length cells.now },
-    ghost below: { ((row column : ℕ) → row < height → column < width → byte_ink cells.now width row column < 256) },
+pub struct Bytes;
+
+impl Packing for Bytes {
+    ghost meaning = { byte_packing };
+
+    ghost laws = { Prim.search rules };
+
+    fn limit() -> u16 {
+        256
+    }
+
+    fn stride(width: u16) -> usize {
+        width as usize
+    }
+
+    fn byte_of(column: usize) -> usize {
+        column
+    }
+
+    fn ink_in(byte: u8, _column: usize) -> u8 {
+        byte
+    }
+
+    fn with_ink(_byte: u8, _column: usize, number: u8) -> u8 {
+        number
+    }
+
+    fn blank_byte(_width: u16, _j: usize) -> u8 {
+        0
+    }
 }

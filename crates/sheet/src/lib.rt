@@ -7,7 +7,9 @@
 pub mod bits;
 pub mod bytes;
 pub mod fault;
+pub mod lent;
 pub mod marks;
+pub mod packings;
 pub mod sheets;
 
 // the largest page that a job takes; a sheet is made within these limits
@@ -15,11 +17,17 @@ pub const MAX_WIDTH: u16 = 1024;
 
 pub const MAX_HEIGHT: u16 = 8192;
 
-pub use bits::BitSheet;
-pub use bytes::ByteSheet;
+pub use bits::{Bits, row_bytes};
+pub use bytes::Bytes;
 pub use fault::SheetFault;
-pub use marks::{mark, mark_bits, mark_bytes};
+pub use lent::LentSheet;
+pub use marks::{mark, mark_lent};
+pub use packings::Packing;
 pub use sheets::Sheet;
+
+pub type ByteSheet<'a> = LentSheet<'a, Bytes>;
+
+pub type BitSheet<'a> = LentSheet<'a, Bits>;
 
 #[cfg(test)]
 mod tests;

@@ -1,15 +1,14 @@
 // Code written for any sheet, and callers that lend it memory.
 //
-// `mark` knows its sheet by the interface alone. `mark_bytes` and `mark_bits` lend memory to a sheet, pass the sheet
-// to `mark`, and their contracts say what each byte of that memory is afterwards: pad bits and bytes past the
-// sheet included.
+// `mark` knows its sheet by the interface alone. `mark_lent` lends memory to a sheet, passes the sheet to `mark`, and
+// its contract says what each byte of that memory is afterwards: pad bits and bytes past the sheet included.
 ghost use Rattle.std.specs.Prelude.{◌≡◌, ℕ, ◌*◌, cond, length, drop};
 ghost use Rattle.sheet.specs.Limits.{fits};
-ghost use Rattle.sheet.specs.Marks.{Marked, marked};
-ghost use Rattle.sheet.specs.Memory.{bit_memory, blank, byte_memory, stride};
+ghost use Rattle.sheet.specs.Marks.{Marked, marked_below};
+ghost use Rattle.sheet.specs.Memory.{blank, lent_memory};
 
-use crate::bits::BitSheet;
-use crate::bytes::ByteSheet;
+use crate::lent::LentSheet;
+use crate::packings::Packing;
 use crate::sheets::Sheet;
 
 // Lays ink 1 at (row, column) and at (column, row), where these are on the sheet.
@@ -22,22 +21,12 @@ pub fn mark<S: Sheet>(sheet: &mut S, row: usize, column: usize)
     let _ = sheet.lay(column, row, 1);
 }
 
-// A new byte sheet with the two places marked.
-pub fn mark_bytes(memory: &mut [u8], width: u16, height: u16, row: usize, column: usize)
-    ensures { memory.new ≡ cond (fits width height (width * height) (length memory.old))
-        (byte_memory width height (marked blank row column) (drop (width * height) memory.old))
+// A new sheet in lent memory with the two places marked.
+pub fn mark_lent<P: Packing>(memory: &mut [u8], width: u16, height: u16, row: usize, column: usize)
+    ensures { memory.new ≡ cond (fits width height (P.meaning.stride width * height) (length memory.old))
+        (lent_memory P.meaning width height (marked_below P.meaning.limit blank row column) (drop (P.meaning.stride width * height) memory.old))
         memory.old }
 {
-    let mut sheet = ByteSheet::new(memory, width, height);
-    mark(&mut sheet, row, column);
-}
-
-// A new bit sheet with the two places marked.
-pub fn mark_bits(memory: &mut [u8], width: u16, height: u16, row: usize, column: usize)
-    ensures { memory.new ≡ cond (fits width height (stride width * height) (length memory.old))
-        (bit_memory width height (marked blank row column) (drop (stride width * height) memory.old))
-        memory.old }
-{
-    let mut sheet = BitSheet::new(memory, width, height);
+    let mut sheet = LentSheet::<P>::new(memory, width, height);
     mark(&mut sheet, row, column);
 }

@@ -1,5 +1,5 @@
 // Sheets on small pieces of memory.
-use crate::{BitSheet, ByteSheet, MAX_HEIGHT, MAX_WIDTH, Sheet, SheetFault, mark_bits};
+use crate::{BitSheet, Bits, ByteSheet, MAX_HEIGHT, MAX_WIDTH, Sheet, SheetFault, mark_lent};
 
 #[test]
 fn new_rows_are_black_and_padded(rt: HostRuntime) {
@@ -57,6 +57,6 @@ fn bytes_hold_the_numbers(rt: HostRuntime) {
 #[test]
 fn marks_leave_pad_bits(rt: HostRuntime) {
     let mut memory = [1u8; 3];
-    mark_bits(&mut memory, 3, 2, 0, 1);
+    mark_lent::<Bits>(&mut memory, 3, 2, 0, 1);
     assert_eq!(rt; memory, [0xA0, 0x60, 1]);
 }
