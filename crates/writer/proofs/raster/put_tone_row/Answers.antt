@@ -24,6 +24,6 @@ loop-column-preserved g c =
     let m = g.I.InkSet.meaning c.args.inks.now in
     let s = g.S.Sheet.meaning c.args.sheet.now in
     let here : bytes_of (v c.tone-tone.result) n ≡ tone_bytes n v m s c.args.row c.loop-column.column =
-    ap (λ t. bytes_of (v t) n) (c.tone-tone.ensures.answer ∙ ap (ink_tone m) c.ink_at.ensures) in
+    ap (λ t. bytes_of (v t) n) (c.tone-tone.ensures ∙ ap (ink_tone m) c.ink_at.ensures) in
     put_piece (tone_bytes n v m s c.args.row) c.loop-column.column c.args.buffer.now c.args.at _ _ _ _
     (omega (arith, c.requires.0)) c.loop-column.invariant (put_as _ _ _ _ _ _ here c.put_tone-place.ensures)
