@@ -1,9 +1,11 @@
 -- The round trip: each sample of a written page stands where the reader looks for it.
-use Rattle.std.proofs.Common.{◌≡◌, ℕ, zero, suc, ◌+◌, ◌-◌, ◌*◌, ◌<◌, ◌≤◌, true, leb, List, ◌++◌, length, get_or, drop, Ok, Err, Result, sym, refl, ap, ◌∙◌, subst, ⊎_elim, true≢false, append_assoc, not-suc-le-zero, mul_assoc, mul_comm, add-mul, add-one, arith}
+use Rattle.std.proofs.Common.{◌≡◌, ℕ, zero, suc, ◌+◌, ◌-◌, ◌*◌, ◌<◌, ◌≤◌, leb, List, ◌++◌, length, get_or, take, drop, Ok, Err, Result, sym, refl, ap, ◌∙◌, subst, ⊎_elim, append_assoc, mul_assoc, mul_comm, add-mul, zero-add, arith}
 use Rattle.std.proofs.lemmas.Nat.{mul-add-lt}
-use Rattle.std.proofs.lemmas.List.FromFn.{get_or-map-range_with_len}
-use Rattle.std.proofs.lemmas.List.{length-append, get_or_append_left, get_or-append-add}
-use Rattle.std.proofs.lemmas.Bool.{cases_eq, cases_Bool, le-leb, lt-ltb}
+use Rattle.std.proofs.lemmas.List.Concat.{get_or-flat_map}
+use Rattle.std.proofs.lemmas.List.FromFn.{get_or-map-range_with_len, get_or-range_with_len, length-map-range_with_len, length-range_with_len, take-map-range_with_len}
+use Rattle.std.proofs.lemmas.List.{length-append, get_or_append_left, map-id}
+use Rattle.std.specs.List.{flat_map, range_with_len}
+use Rattle.std.proofs.lemmas.Bool.{cases_Bool, le-leb, lt-ltb}
 use Rattle.ink.specs.Inks.{Inks, ink_tone}
 use Rattle.netpbm.specs.Plain.{plain_header}
 use Rattle.netpbm.specs.Rasters.{raster_place, sample_at}
@@ -13,23 +15,21 @@ use Rattle.source.specs.Pages.{tone}
 use Rattle.tone.specs.Channels.{channels_of}
 use Rattle.writer.specs.Back.{ReadsBack, Back}
 use Rattle.writer.specs.Buffers.{Wrote}
-use Rattle.writer.specs.Pages.{pieces, tone_bytes, tone_row, tone_raster, tone_page, black_white}
-use Rattle.writer.proofs.Over.{pieces_step, pieces_long, bytes_long}
-use Rattle.writer.proofs.Pages.{tones_long}
+use Rattle.writer.specs.Pages.{pieces, tone_bytes, tone_row, tone_raster, tone_page}
+use Rattle.writer.proofs.Fill.{pieces_long}
 
--- byte j of piece i, among pieces of length k
+counting_take : (n i : ℕ) → i ≤ n → take i (range_with_len 0 n) ≡ range_with_len 0 i
+counting_take n i h =
+    ap (take i) (sym (map-id (range_with_len 0 n))) ∙ (take-map-range_with_len (λ x. x) 0 n i h ∙ map-id (range_with_len 0 i))
+
+-- byte j of piece i, among n pieces of length k
 pub piece_at : (f : ℕ → List ℕ) (n k i j : ℕ) → ((i : ℕ) → length (f i) ≡ k) → i < n → j < k → get_or (pieces f n) (i * k + j) 0 ≡ get_or (f i) j 0
-piece_at f zero k i j each p q = absurd (not-suc-le-zero p)
-piece_at f (suc n) k i j each p q =
-    let long : length (pieces f n) ≡ n * k = pieces_long f n k each in
-    let step : get_or (pieces f (n + 1)) (i * k + j) 0 ≡ get_or (f i) j 0 =
-    ap (λ t. get_or t (i * k + j) 0) (sym (pieces_step f n))
-    ∙ ⊎_elim
-    (λ e. let at : i * k + j ≡ length (pieces f n) + j = ap (λ x. x * k + j) e ∙ omega (arith, long) in
-    ap (λ x. get_or (pieces f n ++ f n) x 0) at ∙ (get_or-append-add (pieces f n) (f n) j 0 ∙ ap (λ x. get_or (f x) j 0) (sym e)))
-    (λ ne. get_or_append_left (pieces f n) (f n) 0 (i * k + j) (omega (arith, long, mul-add-lt i k j n (omega arith) q)) ∙ piece_at f n k i j each (omega arith) q)
-    (cases_eq i n) in
-    subst (λ (x : ℕ). get_or (pieces f x) (i * k + j) 0 ≡ get_or (f i) j 0) (add-one n) step
+piece_at f n k i j each p q =
+    let at : get_or (range_with_len 0 n) i 0 ≡ i = get_or-range_with_len 0 n i 0 p ∙ zero-add i in
+    let place : length (flat_map f (take i (range_with_len 0 n))) + j ≡ i * k + j =
+    rw (counting_take n i (omega arith)) (ap (λ m. m + j) (pieces_long f i k each)) in
+    ap (λ m. get_or (pieces f n) m 0) (sym place)
+    ∙ (get_or-flat_map f (range_with_len 0 n) i j 0 0 (omega (arith, length-range_with_len 0 n)) (rw at (omega (arith, each i))) ∙ ap (λ m. get_or (f m) j 0) at)
 
 channel_at : (n : ℕ) (f : ℕ → ℕ) (i : ℕ) → i < n → n ≤ 3 → get_or (channels_of n f) i 0 ≡ f i
 channel_at n f zero h few = rw (lt-ltb 0 n h) refl
@@ -44,7 +44,7 @@ module _ {T : Type 0} (letter n : ℕ) (value : T → ℕ → ℕ) (made : List 
   laid r c = ink_tone m (s.ink r c)
 
   place_long : (r c : ℕ) → length (tone_bytes n value m s r c) ≡ n
-  place_long r c = bytes_long _ n
+  place_long r c = length-map-range_with_len _ 0 n
 
   row_long : (r : ℕ) → length (tone_row n value m s r) ≡ s.width * n
   row_long r = pieces_long (tone_bytes n value m s r) s.width n (place_long r)
@@ -58,7 +58,7 @@ module _ {T : Type 0} (letter n : ℕ) (value : T → ℕ → ℕ) (made : List 
 
   raster_holds : (r c i : ℕ) → r < s.height → c < s.width → i < n → (r * s.width + c) * n + i < length (tone_raster n value m s)
   raster_holds r c i p q t =
-      omega (arith, at_same r c i, mul-add-lt r (s.width * n) (c * n + i) s.height p (row_holds c i q t), mul_comm (s.width * n) s.height, tones_long n value m s)
+      omega (arith, at_same r c i, mul-add-lt r (s.width * n) (c * n + i) s.height p (row_holds c i q t), mul_comm (s.width * n) s.height, pieces_long (tone_row n value m s) s.height (s.width * n) row_long)
 
   sample_is : (r c i : ℕ) → r < s.height → c < s.width → i < n → get_or (tone_raster n value m s ++ past) ((r * s.width + c) * n + i) 0 ≡ value (laid r c) i
   sample_is r c i p q t =
@@ -99,6 +99,10 @@ module _ {T : Type 0} (letter n : ℕ) (value : T → ℕ → ℕ) (made : List 
         tones = λ r c p q. record { read = built r c; there = law.1 r c p q ∙ read_place r c p q; same = λ i t. built_is r c i p q t };
       })
 
+wrote_ok : (page before after : List ℕ) (k : ℕ) → Wrote page before after (Ok k) → after ≡ page ++ drop (length page) before
+wrote_ok page before after k w =
+    ⊎_elim (λ fits. w.buffer ∙ rw fits refl) (λ short. let bad : Ok k ≡ Err 19 = w.answer ∙ rw short refl in cc) (cases_Bool (leb (length page) (length before)))
+
 -- a page of tones that was written reads back from the buffer
 pub back_after : {T : Type 0} (letter n : ℕ) (value : T → ℕ → ℕ) (made : List ℕ → T) (m : Inks T) (s : SheetMeaning) → SheetBounds s →
     1 ≤ n → n ≤ 3 → ((t : T) (i : ℕ) → i < n → value t i ≤ 255) →
@@ -107,14 +111,5 @@ pub back_after : {T : Type 0} (letter n : ℕ) (value : T → ℕ → ℕ) (made
 back_after letter n value made m s bounds some few byte gives before after (Err k) w = tt
 back_after letter n value made m s bounds some few byte gives before after (Ok k) w = λ no wide high.
     let page = tone_page n value m s letter in
-    ⊎_elim
-    (λ fits. subst (λ (bs : List ℕ). ReadsBack letter n value made m s bs) (sym (w.buffer ∙ rw fits refl))
-    (reads_back letter n value made m s (drop (length page) before) some few byte gives bounds wide high))
-    (λ short. let bad : Ok k ≡ Err 19 = w.answer ∙ rw short refl in let z : ◌≡◌ {A = ℕ} 0 1 = cc in absurd (omega arith))
-    (cases_Bool (leb (length page) (length before)))
-
--- a bitmap is no page of tones
-pub back_none : {T : Type 0} (letter n : ℕ) (value : T → ℕ → ℕ) (made : List ℕ → T) (m : Inks T) (s : SheetMeaning) (bs : List ℕ) (r : Result ℕ ℕ) →
-    black_white n value m s ≡ true → Back letter n value made m s bs r
-back_none letter n value made m s bs (Ok k) is = λ not wide high. absurd (true≢false (sym is ∙ not))
-back_none letter n value made m s bs (Err k) is = tt
+    subst (λ (bs : List ℕ). ReadsBack letter n value made m s bs) (sym (wrote_ok page before after k w))
+    (reads_back letter n value made m s (drop (length page) before) some few byte gives bounds wide high)

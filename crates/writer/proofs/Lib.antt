@@ -1,3 +1,3 @@
-pub mod Over
-pub mod Pages
+pub mod Bits
+pub mod Fill
 pub mod Back

@@ -1,10 +1,5 @@
 -- What writing leaves in a buffer.
 use Rattle.std.specs.Prelude.{◌≡◌, ℕ, cond, List, ◌++◌, length, drop, Ok, Err, Result, nat_le}
-use Rattle.std.proofs.Math.Seq.{paste}
-
--- the buffer b with the bytes s written over it from `at` on
-abbrev pub over : List ℕ → ℕ → List ℕ → List ℕ
-over b at s = paste b at s (length s)
 
 -- The page's bytes were written: the answer is their number and the bytes past them stay. Where the buffer is too
 -- short the answer is 19, and the buffer stays.

@@ -1,6 +1,9 @@
 // Why a page is not written.
-ghost use Rattle.std.specs.Prelude.{◌≡◌};
+ghost use Rattle.std.specs.Prelude.{◌≡◌, Some, codes};
 ghost use Rattle.writer.specs.Refusals.{fault_number};
+
+use std::error::Error;
+use std::fmt;
 
 #[derive(Clone, Copy, PartialEq, Eq, Debug)]
 pub enum WriteFault {
@@ -20,3 +23,15 @@ impl WriteFault {
         }
     }
 }
+
+impl fmt::Display for WriteFault {
+    ghost output = { λ _. Some (codes "the buffer is too short for the page") };
+
+    fn fmt<W: fmt::Write>(&self, f: &mut fmt::Formatter<W>) -> fmt::Result {
+        match self {
+            WriteFault::Short => write!(f, "the buffer is too short for the page"),
+        }
+    }
+}
+
+impl Error for WriteFault {}

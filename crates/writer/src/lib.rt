@@ -5,8 +5,11 @@
 #![tactic(auto)]
 
 pub mod fault;
-mod raster;
-mod text;
+mod header;
+mod packed;
+mod printed;
+mod rows;
+mod tones;
 pub mod writing;
 
 pub use fault::WriteFault;
