@@ -42,13 +42,12 @@ impl<T: Tone> Source<T> for Flat<T> {
     }
 
     fn at(&self, row: usize, column: usize) -> Result<T, Fault> {
-        if row >= usize::from(self.height) || column >= usize::from(self.width) {
-            return Err(Fault::Outside(Spot {
-                layer: self.layer,
-                row,
-                column,
-            }));
-        }
+        let spot = Spot {
+            layer: self.layer,
+            row,
+            column,
+        };
+        spot.on_page(self.width, self.height)?;
         Ok(self.tone)
     }
 }

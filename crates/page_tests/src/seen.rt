@@ -2,32 +2,18 @@
 ghost use Rattle.std.specs.Prelude.{◌≡◌};
 ghost use Rattle.source.specs.Faults.{said};
 ghost use Rattle.source.specs.Pages.{answer};
-ghost use Rattle.tone.specs.Channels.{channels_of};
 ghost use Rattle.page_tests.specs.Seeing.{seen_of};
 
 use source::{Fault, Source};
-use std::array;
 use tone::Tone;
 
 // The samples of the tone, 0 past its last channel, or the fault.
 pub type Seen = Result<[u8; 3], Fault>;
 
-// The samples of a tone, 0 past its last channel.
-fn samples<T: Tone>(tone: T) -> [u8; 3]
-    ensures { result ≡ channels_of T.Tone.count (T.Tone.value tone) }
-{
-    array::from_fn(|i| {
-        if i < T::channels() {
-            tone.channel(i)
-        } else {
-            0
-        }
-    })
-}
-
 // What a source answers at a place.
 pub fn ask<T: Tone, S: Source<T>>(source: &S, row: usize, column: usize) -> Seen
     ensures { said result ≡ seen_of T.Tone.count T.Tone.value (answer (S.Source.page source.now) row column) }
 {
-    source.at(row, column).map(samples)
+    let tone = source.at(row, column)?;
+    Ok(tone.values())
 }

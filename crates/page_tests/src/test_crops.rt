@@ -2,11 +2,20 @@
 use crate::seen::{Seen, ask};
 use crate::test_faults::outside;
 use netpbm::{Reader, read};
-use source::{Chart, Crop, Source};
+use source::{Chart, Crop, Source, Window};
 use std::test::Fail;
 use tone::Grey;
 
 const FAR: usize = usize::MAX;
+
+pub(crate) const fn window(top: usize, left: usize, height: usize, width: usize) -> Window {
+    Window {
+        top,
+        left,
+        height,
+        width,
+    }
+}
 
 // Four columns and three rows; a sample's first hexadecimal digit is its row, the second its column.
 const PAGE: &[u8] = b"P5 4 3 255\n\x00\x01\x02\x03\x10\x11\x12\x13\x20\x21\x22\x23";
@@ -83,7 +92,7 @@ const DEEPER: [(usize, usize, Seen); 5] = [
 fn a_window_is_cut_to_the_page(rt: HostRuntime) -> Result<(), Fail> {
     for (i, &([top, left, height, width], high, wide, seen)) in WINDOWS.iter().enumerate() {
         let page = read::<Grey>(PAGE)?;
-        let crop = Crop::new(page, top, left, height, width);
+        let crop = Crop::new(page, window(top, left, height, width));
         assert_eq!(rt; ask::<Grey, _>(&crop, 0, 0), seen, "case {i}");
         assert_eq!(rt; crop.height(), high, "case {i}");
         assert_eq!(rt; crop.width(), wide, "case {i}");
@@ -96,13 +105,13 @@ fn lengths_are_cut_exactly(rt: HostRuntime) {
     for (i, &(from, wanted, shown)) in LENGTHS.iter().enumerate() {
         let tall: Chart<Grey> = Chart::new(1, 65535);
         assert_eq!(rt;
-            Crop::new(tall, from, 0, wanted, 1).height(),
+            Crop::new(tall, window(from, 0, wanted, 1)).height(),
             shown,
             "case {i}"
         );
         let wide: Chart<Grey> = Chart::new(65535, 1);
         assert_eq!(rt;
-            Crop::new(wide, 0, from, 1, wanted).width(),
+            Crop::new(wide, window(0, from, 1, wanted)).width(),
             shown,
             "case {i}"
         );
@@ -112,7 +121,7 @@ fn lengths_are_cut_exactly(rt: HostRuntime) {
 #[test]
 fn a_window_shows_its_places(rt: HostRuntime) -> Result<(), Fail> {
     let page = read::<Grey>(PAGE)?;
-    let crop = Crop::new(page, 1, 1, 2, 2);
+    let crop = Crop::new(page, window(1, 1, 2, 2));
     for (i, &(row, column, seen)) in WITHIN.iter().enumerate() {
         assert_eq!(rt; ask::<Grey, _>(&crop, row, column), seen, "case {i}");
     }
@@ -122,7 +131,7 @@ fn a_window_shows_its_places(rt: HostRuntime) -> Result<(), Fail> {
 #[test]
 fn a_crop_of_a_crop(rt: HostRuntime) -> Result<(), Fail> {
     let page = read::<Grey>(PAGE)?;
-    let deeper = Crop::new(Crop::new(page, 1, 1, 2, 2), 1, 0, 5, 5);
+    let deeper = Crop::new(Crop::new(page, window(1, 1, 2, 2)), window(1, 0, 5, 5));
     assert_eq!(rt;
         (deeper.height(), deeper.width(), deeper.layer()),
         (1, 2, 2)

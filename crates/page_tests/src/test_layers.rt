@@ -1,6 +1,7 @@
 // Negative, and stacks of layers: what is shown, and who tells a fault.
 use crate::flat::Flat;
 use crate::seen::{Seen, ask};
+use crate::test_crops::window;
 use crate::test_faults::{missing, outside};
 use netpbm::read;
 use source::{Crop, Negative, Source};
@@ -96,7 +97,10 @@ fn a_negative_that_is_off_is_a_layer(rt: HostRuntime) -> Result<(), Fail> {
 #[test]
 fn a_stack_passes_a_missing_place_up(rt: HostRuntime) -> Result<(), Fail> {
     let page = read::<Grey>(PAGE)?;
-    let stack = Negative::new(Crop::new(Negative::new(page, false), 0, 2, 9, 2), true);
+    let stack = Negative::new(
+        Crop::new(Negative::new(page, false), window(0, 2, 9, 2)),
+        true,
+    );
     assert_eq!(rt; (stack.width(), stack.height(), stack.layer()), (2, 3, 3));
     for (i, &(row, column, seen)) in STACK.iter().enumerate() {
         assert_eq!(rt; ask::<Grey, _>(&stack, row, column), seen, "case {i}");
@@ -107,7 +111,7 @@ fn a_stack_passes_a_missing_place_up(rt: HostRuntime) -> Result<(), Fail> {
 #[test]
 fn a_missing_place_below_two_crops(rt: HostRuntime) -> Result<(), Fail> {
     let page = read::<Grey>(PAGE)?;
-    let crops = Crop::new(Crop::new(page, 1, 1, 9, 9), 1, 1, 9, 9);
+    let crops = Crop::new(Crop::new(page, window(1, 1, 9, 9)), window(1, 1, 9, 9));
     assert_eq!(rt; (crops.width(), crops.height(), crops.layer()), (2, 1, 2));
     for (i, &(row, column, seen)) in TWO_CROPS.iter().enumerate() {
         assert_eq!(rt; ask::<Grey, _>(&crops, row, column), seen, "case {i}");
@@ -131,10 +135,10 @@ fn a_negative_acts_on_each_channel(rt: HostRuntime) -> Result<(), Fail> {
 fn the_number_of_a_layer_stops(rt: HostRuntime) {
     let deep = Flat::new(Grey { light: 9 }, 2, 2, 65534);
     assert_eq!(rt; ask::<Grey, _>(&deep, 2, 2), Err(outside!(65534, 2, 2)));
-    let last = Crop::new(deep, 0, 0, 2, 2);
+    let last = Crop::new(deep, window(0, 0, 2, 2));
     assert_eq!(rt; ask::<Grey, _>(&last, 2, 0), Err(outside!(65535, 2, 0)));
     let more = Negative::new(last, true);
     assert_eq!(rt; ask::<Grey, _>(&more, 0, 2), Err(outside!(65535, 0, 2)));
     assert_eq!(rt; ask::<Grey, _>(&more, 1, 1), Ok([246, 0, 0]));
-    assert_eq!(rt; Crop::new(more, 0, 0, 1, 1).layer(), 65535);
+    assert_eq!(rt; Crop::new(more, window(0, 0, 1, 1)).layer(), 65535);
 }
