@@ -3,14 +3,11 @@
 #![tactic(auto)]
 
 mod open;
-mod opened;
 mod text;
 
-use open::open_page;
-use opened::Opened;
+use open::{AnyPage, open_page};
 use source::Source;
 use std::fs;
-use std::io::Write;
 use text::page_text;
 use tone::Tone;
 
@@ -35,9 +32,8 @@ const FILES: [&str; 14] = [
 fn show<T: Tone, S: Source<T>>(rt: &HostRuntime, kind: &str, page: &S) -> anyhow::Result<()> {
     let width = page.width();
     let height = page.height();
-    println!(rt; "{kind}, {width} by {height}")?;
     let text = page_text::<T, S>(rt.alloc(), page)?;
-    rt.stdout().write_all(&text)?;
+    print!(rt; "{kind}, {width} by {height}\n{text}")?;
     Ok(())
 }
 
@@ -46,13 +42,9 @@ fn main(rt: HostRuntime) -> anyhow::Result<()> {
         let bytes = fs::read(&rt, name)?;
         print!(rt; "{name}: ")?;
         match open_page(&bytes) {
-            Opened::Grey(page) => show(&rt, "grey", &page)?,
-            Opened::Colour(page) => show(&rt, "colour", &page)?,
-            Opened::Refused(fault) => {
-                let number = fault.number();
-                let byte = fault.byte();
-                println!(rt; "refused, {number} at byte {byte}")?;
-            }
+            Ok(AnyPage::Grey(page)) => show(&rt, "grey", &page)?,
+            Ok(AnyPage::Colour(page)) => show(&rt, "colour", &page)?,
+            Err(fault) => println!(rt; "refused, {fault}")?,
         }
     }
     Ok(())

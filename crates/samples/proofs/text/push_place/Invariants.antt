@@ -1,8 +1,8 @@
-use Rattle.std.proofs.Common.{◌≡◌, ◌++◌, vec_items}
+use Rattle.std.proofs.Common.{◌≡◌, ◌++◌, string_bytes}
 use Rattle.source.specs.Faults.{said}
 use Rattle.samples.specs.Texts.{joined, sample_text}
 use Rattle.samples.proofs.text.push_place.Given as goal
 
 abbrev pub invariant-loop-channel : goal.invariant-loop-channel
 invariant-loop-channel g l =
-    vec_items l.text ≡ vec_items l.initial.text ++ joined (sample_text g.T.Tone.count g.T.Tone.value (said l.answer)) l.channel
+    string_bytes l.text ≡ string_bytes l.initial.text ++ joined (sample_text g.T.Tone.count g.T.Tone.value (said l.answer)) l.channel
