@@ -1,11 +1,9 @@
 // Colour levels: ink (r * n + g) * n + b has the tones r * gap, g * gap and b * gap.
-ghost use Rattle.std.specs.Prelude.{◌≡◌, if◌then◌else◌};
-ghost use Rattle.ink.specs.Inks.{OfKind};
+ghost use Rattle.std.specs.Prelude.{◌≡◌, if◌then◌else◌, refl};
 ghost use Rattle.ink.specs.LevelRules.{colour_steps};
 ghost use Rattle.ink.specs.Levels.{colour_levels};
 ghost use Rattle.ink.specs.Nearness.{Nearest};
 ghost use Rattle.ink.specs.Values.{values};
-ghost use Rattle.tone.specs.Kinds.{colour_value};
 
 use crate::levels::ColourLevels;
 use crate::sets::InkSet;
@@ -30,6 +28,8 @@ impl ColourLevels {
 impl InkSet<Colour> for ColourLevels {
     ghost meaning = { λ s. colour_levels s.steps s.listed };
 
+    ghost kind = { λ s. (refl, refl) };
+
     fn count(&self) -> u16 {
         self.steps * (self.steps * self.steps)
     }
@@ -49,7 +49,6 @@ impl InkSet<Colour> for ColourLevels {
     }
 
     fn choose(&self, wanted: [i32; 3]) -> u16
-        ensures kind { OfKind (colour_levels self.now.steps self.now.listed) 3 colour_value }
         ensures answer { result ≡ (colour_levels self.now.steps self.now.listed).choice (values 3 wanted) }
         ensures nearest { Nearest (colour_levels self.now.steps self.now.listed) (values 3 wanted) result }
     {

@@ -1,11 +1,9 @@
 // Grey levels: ink i has the tone i * gap.
-ghost use Rattle.std.specs.Prelude.{◌≡◌, if◌then◌else◌};
-ghost use Rattle.ink.specs.Inks.{OfKind};
+ghost use Rattle.std.specs.Prelude.{◌≡◌, if◌then◌else◌, refl};
 ghost use Rattle.ink.specs.LevelRules.{grey_steps};
 ghost use Rattle.ink.specs.Levels.{grey_levels};
 ghost use Rattle.ink.specs.Nearness.{Nearest};
 ghost use Rattle.ink.specs.Values.{values};
-ghost use Rattle.tone.specs.Kinds.{grey_value};
 
 use crate::levels::GreyLevels;
 use crate::sets::InkSet;
@@ -30,6 +28,8 @@ impl GreyLevels {
 impl InkSet<Grey> for GreyLevels {
     ghost meaning = { λ s. grey_levels s.steps s.listed };
 
+    ghost kind = { λ s. (refl, refl) };
+
     fn count(&self) -> u16 {
         self.steps
     }
@@ -40,7 +40,6 @@ impl InkSet<Grey> for GreyLevels {
     }
 
     fn choose(&self, wanted: [i32; 3]) -> u16
-        ensures kind { OfKind (grey_levels self.now.steps self.now.listed) 1 grey_value }
         ensures answer { result ≡ (grey_levels self.now.steps self.now.listed).choice (values 1 wanted) }
         ensures nearest { Nearest (grey_levels self.now.steps self.now.listed) (values 1 wanted) result }
     {

@@ -1,6 +1,5 @@
 // The calls of a list of inks.
-ghost use Rattle.std.specs.Prelude.{◌≡◌, take};
-ghost use Rattle.ink.specs.Inks.{OfKind};
+ghost use Rattle.std.specs.Prelude.{◌≡◌, take, refl};
 ghost use Rattle.ink.specs.Lists.{ink_list};
 ghost use Rattle.ink.specs.Nearness.{Nearest};
 ghost use Rattle.ink.specs.Values.{values};
@@ -28,6 +27,8 @@ impl<'a, T> InkList<'a, T> {
 impl<T: Tone> InkSet<T> for InkList<'_, T> {
     ghost meaning = { λ s. ink_list T.Tone.count T.Tone.value T.Tone.made s.inks.now s.few };
 
+    ghost kind = { λ s. (refl, refl) };
+
     fn count(&self) -> u16 {
         if self.inks.len() == 0 {
             1
@@ -49,8 +50,6 @@ impl<T: Tone> InkSet<T> for InkList<'_, T> {
     }
 
     fn choose(&self, wanted: [i32; 3]) -> u16
-        ensures kind { OfKind (ink_list T.Tone.count T.Tone.value T.Tone.made self.now.inks.now self.now.few)
-            T.Tone.count T.Tone.value }
         ensures answer { result ≡ (ink_list T.Tone.count T.Tone.value T.Tone.made self.now.inks.now self.now.few).choice
             (values T.Tone.count wanted) }
         ensures nearest { Nearest (ink_list T.Tone.count T.Tone.value T.Tone.made self.now.inks.now self.now.few)

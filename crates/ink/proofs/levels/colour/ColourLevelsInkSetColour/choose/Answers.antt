@@ -1,4 +1,4 @@
-use Rattle.std.proofs.Common.{◌≡◌, ℕ, ◌+◌, ◌*◌, ◌<◌, length, get_or, pos, refl, ap, ◌∙◌, arith, w32, SFits, rules}
+use Rattle.std.proofs.Common.{◌≡◌, ℕ, ◌+◌, ◌*◌, ◌<◌, length, get_or, pos, ap, ◌∙◌, arith, w32, SFits, rules}
 use Rattle.std.proofs.lemmas.Int.{to_z-of_z}
 use Rattle.ink.specs.LevelRules.{colour_choice, gap_of, level}
 use Rattle.ink.specs.Values.{values}
@@ -25,7 +25,6 @@ returns c =
     ∙ (ap (λ x. (level (gap_of n) (get_or (values 3 u) 0 (pos 0)) * n + x) * n + c.nearest_level-blue.result) (green ∙ at 1 (omega arith))
     ∙ ap (λ x. (level (gap_of n) (get_or (values 3 u) 0 (pos 0)) * n + level (gap_of n) (get_or (values 3 u) 1 (pos 0))) * n + x) (blue ∙ at 2 (omega arith))) in
     record {
-      kind = (refl, refl);
       answer = e;
       nearest = rw e (colour_nearest n s.listed (values 3 u));
     }

@@ -1,4 +1,4 @@
-use Rattle.std.proofs.Common.{◌≡◌, ◌<◌, length, get_or, pos, refl, ap, ◌∙◌, arith, w32, SFits, rules}
+use Rattle.std.proofs.Common.{◌≡◌, ◌<◌, length, get_or, pos, ap, ◌∙◌, arith, w32, SFits, rules}
 use Rattle.std.proofs.lemmas.Int.{to_z-of_z}
 use Rattle.ink.specs.LevelRules.{gap_of, grey_choice, level}
 use Rattle.ink.specs.Values.{values}
@@ -16,7 +16,6 @@ returns c =
     let e : c.nearest_level.result ≡ grey_choice s.steps (values 1 u) =
     r ∙ (ap (λ k. level k (get_or u 0 (pos 0))) s.equal ∙ level_at 1 (gap_of s.steps) u 0 (omega arith) l) in
     record {
-      kind = (refl, refl);
       answer = e;
       nearest = rw e (grey_nearest s.steps s.listed (values 1 u));
     }

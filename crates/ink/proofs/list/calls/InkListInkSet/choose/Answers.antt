@@ -1,4 +1,4 @@
-use Rattle.std.proofs.Common.{◌≡◌, map, length, refl, ap, ◌∙◌, arith, rules}
+use Rattle.std.proofs.Common.{◌≡◌, map, length, ap, ◌∙◌, arith, rules}
 use Rattle.ink.specs.Lists.{nearest_of}
 use Rattle.ink.specs.Nearness.{distance}
 use Rattle.ink.specs.Values.{limited, values}
@@ -25,7 +25,6 @@ returns g c =
     c.nearest_ink.ensures
     ∙ (ap (λ v. nearest_of (distance count value v) ts) c.limit_all-limited.ensures ∙ ap (λ f. nearest_of f ts) same) in
     record {
-      kind = (refl, refl);
       answer = e;
       nearest = rw e (list_nearest count value g.T.Tone.made ts c.args.self.now.few (values count u));
     }
