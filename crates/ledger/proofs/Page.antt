@@ -2,6 +2,7 @@
 use Rattle.std.proofs.Common.{◌≡◌, ℕ, zero, suc, ◌+◌, ◌-◌, ◌*◌, ◌/◌, ◌%◌, ◌<◌, ◌≤◌, Bool, true, false, cond, ◌&&◌, ltb, ℤ, pos, negsuc, ◌≤ℤ◌, Some, None, sym, refl, ap, ◌∙◌, arith}
 use borrow.Author.Differences.{ints}
 use Rattle.std.proofs.lemmas.Bool.{and_parts, ltb-true, lt-ltb}
+use Rattle.std.proofs.lemmas.Option.{none-some}
 use Rattle.std.proofs.lemmas.Nat.{div-mul-add, mod-mul-add, mul-add-lt, mod_below, div_below, div-add-mod'}
 use Rattle.kernel.specs.declared.tap.Tap.{Tap}
 use Rattle.ledger.specs.Page.{Page, backward, cells, row, column, number, cell_at, ahead, aimed}
@@ -44,9 +45,6 @@ number_below p r c h l = mul-add-lt r p.width _ p.height h (turned_below (backwa
 pub row_below : (p : Page) (k : ℕ) → 1 ≤ p.width → k < cells p → row p k < p.height
 row_below p k h l = div_below k p.width p.height h (omega arith)
 
-pub none_ne_some : (n : ℕ) → None ≡ Some n → ⊥
-none_ne_some n e = let z : ◌≡◌ {A = ℕ} 0 1 = cc in omega arith
-
 -- ---- a place that is on the page
 pub cell_at_in : (p : Page) (r c : ℕ) → r < p.height → c < p.width → cell_at p r (pos c) ≡ Some (number p r c)
 unfolding cell_at
@@ -54,14 +52,14 @@ cell_at_in p r c h l = rw (lt-ltb r p.height h, lt-ltb c p.width l)
 
 pub cell_at_out : (p : Page) (r : ℕ) (c : ℤ) (m : ℕ) → cell_at p r c ≡ Some m → (i : ℕ) × (c ≡ pos i) × (r < p.height) × (i < p.width) × (m ≡ number p r i)
 unfolding cell_at
-cell_at_out p r (negsuc c) m e = absurd (none_ne_some m e)
+cell_at_out p r (negsuc c) m e = absurd (none-some m e)
 cell_at_out p r (pos c) m e = go (ltb r p.height && ltb c p.width) refl e
   where
     go : (t : Bool) → (ltb r p.height && ltb c p.width) ≡ t → cond t (Some (number p r c)) None ≡ Some m → (i : ℕ) × (pos c ≡ pos i) × (r < p.height) × (i < p.width) × (m ≡ number p r i)
     go true t e =
         let b = and_parts (ltb r p.height) (ltb c p.width) t in
         (c, refl, ltb-true r p.height b.0, ltb-true c p.width b.1, (cc))
-    go false t e = absurd (none_ne_some m e)
+    go false t e = absurd (none-some m e)
 
 -- ---- the cell that a tap aims at: its row and column
 pub aimed_out : (p : Page) (t : Tap) (j m : ℕ) → aimed p t j ≡ Some m → (row p m ≡ row p j + t.down) × (pos (column p m) ≡ ahead (backward p (row p j)) (pos (column p j)) t.ahead) × (m < cells p)

@@ -2,6 +2,8 @@
 use Rattle.std.proofs.Common.{◌≡◌, ℕ, ◌+◌, ◌-◌, ◌*◌, ◌<◌, ◌≤◌, Bool, true, false, not, ltb, List, [], ◌∷◌, ℤ, pos, negsuc, ◌+ℤ◌, ◌-ℤ◌, ◌*ℤ◌, nat_abs, Some, None, Option, sym, refl, ap, ◌∙◌, ⊎_elim, mul-le-mul_left, arith}
 use borrow.Author.Differences.{ints}
 use Rattle.std.proofs.lemmas.Bool.{cases_lt, true≢false, eqb-true, eq-eqb, lt-ltb, ltb-true, ltb-false}
+use Rattle.std.proofs.lemmas.Option.{none-some}
+use Rattle.std.proofs.lemmas.Int.{unsigned_abs-mul}
 use Rattle.std.proofs.lemmas.List.Sums.{sum_by-cons}
 use Rattle.ledger.specs.Sums.{Σ<, Σ∈, given}
 use Rattle.kernel.specs.declared.tap.Tap.{Tap}
@@ -9,9 +11,9 @@ use Rattle.ledger.specs.Page.{Page, backward, cells, row, column, number, cell_a
 use Rattle.ledger.specs.Ledger.{Trace, sent, pending}
 use Rattle.kernel.specs.Rules.{Shape, weights}
 use Rattle.ledger.proofs.Kernels.{EachAhead}
-use Rattle.ledger.proofs.Ring.{abs_add, abs_pos_mul}
+use Rattle.ledger.proofs.Ring.{abs_add}
 use Rattle.ledger.proofs.Sums.{ΣExt, ΣZero, ΣAdd, ΣMul, ΣOne, ΣNone}
-use Rattle.ledger.proofs.Page.{none_ne_some, column_below, number_of, row_number, column_number, row_below, cell_at_in, cell_at_out, aimed_out, aimed_in, aims_later}
+use Rattle.ledger.proofs.Page.{column_below, number_of, row_number, column_number, row_below, cell_at_in, cell_at_out, aimed_out, aimed_in, aims_later}
 
 -- the error at row i and column c, and 0 off the page and at the cells from n on
 unfoldable pub valued : (ℕ → ℤ) → ℕ → Option ℕ → ℤ
@@ -80,7 +82,7 @@ module _ (p : Page) (e : ℕ → ℤ) (N n k : ℕ) (t : Tap) (w : 1 ≤ p.width
 
     at_sender : (o : Option ℕ) → cell_at p r c ≡ o → Σ< N (λ j. given (hits k (aimed p t j)) (e j)) ≡ valued e n o
     unfolding valued
-    at_sender None y = ΣNone N (λ j. hits k (aimed p t j)) e (λ j i h. none_ne_some j (sym y ∙ sender_cell j h))
+    at_sender None y = ΣNone N (λ j. hits k (aimed p t j)) e (λ j i h. none-some j (sym y ∙ sender_cell j h))
     at_sender (Some j) y = rw (← agree j (sender_aims j y)) (go (ltb j N) refl)
       where
         only : (i : ℕ) → hits k (aimed p t i) ≡ true → i ≡ j
@@ -149,7 +151,7 @@ brought_is p K s n k w a l m = brought_by p s.error k n k K.taps w l (sooner p n
 pub taps_abs : (ts : List Tap) (g : Tap → ℤ) (E : ℕ) → ((t : Tap) → nat_abs (g t) ≤ E) → nat_abs (Σ∈ ts (λ t. pos t.weight *ℤ g t)) ≤ weights ts * E
 taps_abs [] g E h = omega arith
 taps_abs (t ∷ ts) g E h =
-    let one = abs_pos_mul t.weight (g t) in
+    let one = unsigned_abs-mul (pos t.weight) (g t) in
     let times = mul-le-mul_left t.weight (h t) in
     let more = taps_abs ts g E h in
     let both = abs_add (pos t.weight *ℤ g t) (Σ∈ ts (λ t. pos t.weight *ℤ g t)) in
