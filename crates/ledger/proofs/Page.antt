@@ -1,7 +1,7 @@
 -- A cell's number, row and column give one another; taps aim at later cells.
 use Rattle.std.proofs.Common.{◌≡◌, ℕ, zero, suc, ◌+◌, ◌-◌, ◌*◌, ◌/◌, ◌%◌, ◌<◌, ◌≤◌, Bool, true, false, cond, ◌&&◌, ltb, ℤ, pos, negsuc, ◌≤ℤ◌, Some, None, sym, refl, ap, ◌∙◌, arith}
 use borrow.Author.Differences.{ints}
-use Rattle.std.proofs.lemmas.Bool.{and_parts, ltb-true, lt-ltb}
+use Rattle.std.proofs.lemmas.Bool.{and_parts, ltb-true}
 use Rattle.std.proofs.lemmas.Option.{none-some}
 use Rattle.std.proofs.lemmas.Nat.{div-mul-add, mod-mul-add, mul-add-lt, mod_below, div_below, div-add-mod'}
 use Rattle.kernel.specs.declared.tap.Tap.{Tap}
@@ -9,12 +9,10 @@ use Rattle.ledger.specs.Page.{Page, backward, cells, row, column, number, cell_a
 
 -- the position in a row, from a column or back
 turned_below : (b : Bool) (w i : ℕ) → i < w → cond b (w - 1 - i) i < w
-turned_below true w i h = omega arith
-turned_below false w i h = h
+turned_below b w i h = grind arith
 
 turned_twice : (b : Bool) (w i : ℕ) → i < w → cond b (w - 1 - cond b (w - 1 - i) i) (cond b (w - 1 - i) i) ≡ i
-turned_twice true w i h = omega arith
-turned_twice false w i h = refl
+turned_twice b w i h = grind arith
 
 pub column_below : (p : Page) (k : ℕ) → 1 ≤ p.width → column p k < p.width
 unfolding column
@@ -48,7 +46,7 @@ row_below p k h l = div_below k p.width p.height h (omega arith)
 -- ---- a place that is on the page
 pub cell_at_in : (p : Page) (r c : ℕ) → r < p.height → c < p.width → cell_at p r (pos c) ≡ Some (number p r c)
 unfolding cell_at
-cell_at_in p r c h l = rw (lt-ltb r p.height h, lt-ltb c p.width l)
+cell_at_in p r c h l = grind arith
 
 pub cell_at_out : (p : Page) (r : ℕ) (c : ℤ) (m : ℕ) → cell_at p r c ≡ Some m → (i : ℕ) × (c ≡ pos i) × (r < p.height) × (i < p.width) × (m ≡ number p r i)
 unfolding cell_at
@@ -77,8 +75,7 @@ aimed_in p t j k w l e f =
 -- later in the same row, or in a later row
 step_ahead : (b : Bool) (w i j : ℕ) (a : ℤ) → i < w → j < w → pos 1 ≤ℤ a → pos j ≡ ahead b (pos i) a → cond b (w - 1 - i) i < cond b (w - 1 - j) j
 unfolding ahead
-step_ahead true w i j a h l one e = omega (arith, ints)
-step_ahead false w i j a h l one e = omega (arith, ints)
+step_ahead b w i j a h l one e = grind (arith, ints)
 
 later_row : (w j m d : ℕ) → 1 ≤ w → m / w ≡ j / w + suc d → j < m
 later_row w j m d h e =

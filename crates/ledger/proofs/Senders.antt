@@ -1,7 +1,7 @@
 -- What is sent to a cell, read at the cells that send it: for each tap there is one sender, or none.
 use Rattle.std.proofs.Common.{◌≡◌, ℕ, ◌+◌, ◌-◌, ◌*◌, ◌<◌, ◌≤◌, Bool, true, false, not, ltb, List, [], ◌∷◌, ℤ, pos, negsuc, ◌+ℤ◌, ◌-ℤ◌, ◌*ℤ◌, nat_abs, Some, None, Option, sym, refl, ap, ◌∙◌, ⊎_elim, mul-le-mul_left, arith}
 use borrow.Author.Differences.{ints}
-use Rattle.std.proofs.lemmas.Bool.{cases_lt, true≢false, eqb-true, eq-eqb, lt-ltb, ltb-true, ltb-false}
+use Rattle.std.proofs.lemmas.Bool.{cases_lt, eq-eqb, lt-ltb, ltb-true, ltb-false}
 use Rattle.std.proofs.lemmas.Option.{none-some}
 use Rattle.std.proofs.lemmas.Int.{unsigned_abs-mul}
 use Rattle.std.proofs.lemmas.List.Sums.{sum_by-cons}
@@ -46,18 +46,15 @@ error_at_abs p e n E h (pos r) c = go (cell_at p r c)
     go (Some j) = tested j (ltb j n) refl
 
 pub hits_some : (k : ℕ) (o : Option ℕ) → hits k o ≡ true → o ≡ Some k
-hits_some k None h = absurd (true≢false (sym h))
-hits_some k (Some m) h = ap Some (eqb-true m k h)
+hits_some k o h = grind arith
 
 back_again : (b : Bool) (c d a : ℤ) → d ≡ ahead b c a → c ≡ ahead (not b) d a
 unfolding ahead
-back_again true c d a e = omega (arith, ints)
-back_again false c d a e = omega (arith, ints)
+back_again b c d a e = grind (arith, ints)
 
 forth_again : (b : Bool) (c d a : ℤ) → c ≡ ahead (not b) d a → d ≡ ahead b c a
 unfolding ahead
-forth_again true c d a e = omega (arith, ints)
-forth_again false c d a e = omega (arith, ints)
+forth_again b c d a e = grind (arith, ints)
 
 -- The one cell whose tap t aims at cell k, or none: it stands at row r and column c. The sum runs over the first N cells, and the errors read are of the first n; the cells that aim at k are in both or in neither.
 module _ (p : Page) (e : ℕ → ℤ) (N n k : ℕ) (t : Tap) (w : 1 ≤ p.width) (l : k < cells p) (agree : (j : ℕ) → aimed p t j ≡ Some k → ltb j N ≡ ltb j n) where
@@ -108,8 +105,7 @@ module _ (p : Page) (e : ℕ → ℤ) (N n k : ℕ) (t : Tap) (w : 1 ≤ p.width
 
 -- all that is sent to cell k
 given_mul : (b : Bool) (w e : ℤ) → given b (w *ℤ e) ≡ w *ℤ given b e
-given_mul true w e = refl
-given_mul false w e = omega (arith, ints)
+given_mul b w e = grind (arith, ints)
 
 Agree : Page → ℕ → ℕ → ℕ → List Tap → Type 0
 Agree p N n k [] = Unit {0}

@@ -71,8 +71,7 @@ pub ΣOne : (n : ℕ) (b : ℕ → Bool) (f : ℕ → ℤ) (i : ℕ) → i < n �
     early m z false y ne = omega (arith, ints)
 
 pub given_abs : (b : Bool) (z : ℤ) (B : ℕ) → nat_abs z ≤ B → nat_abs (given b z) ≤ B
-given_abs true z B h = h
-given_abs false z B h = omega arith
+given_abs b z B h = grind (arith, ints)
 
 pub ΣNone : (n : ℕ) (b : ℕ → Bool) (f : ℕ → ℤ) → ((k : ℕ) → k < n → b k ≡ true → ⊥) → Σ< n (λ k. given (b k) (f k)) ≡ pos 0
 ΣNone n b f h = ΣZero n (λ k. given (b k) (f k)) (λ k m. go k m (b k) refl)

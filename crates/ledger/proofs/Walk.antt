@@ -1,9 +1,9 @@
 -- From a cell to the next: its row, its place along the row and its column; and where a tap aims, by tests that code makes.
-use Rattle.std.proofs.Common.{◌≡◌, ℕ, suc, ◌+◌, ◌-◌, ◌*◌, ◌/◌, ◌%◌, ◌<◌, ◌≤◌, Bool, true, false, cond, eqb, ltb, ◌⊎◌, ℤ, pos, negsuc, nat_abs, Some, None, sym, refl, ap, ◌∙◌, ap₂, inl, inr, ⊎_elim, arith}
+use Rattle.std.proofs.Common.{◌≡◌, ℕ, suc, ◌+◌, ◌-◌, ◌*◌, ◌/◌, ◌%◌, ◌<◌, ◌≤◌, Bool, true, false, cond, eqb, ◌⊎◌, ℤ, pos, nat_abs, Some, None, sym, refl, ap, ◌∙◌, ap₂, inl, inr, ⊎_elim, arith}
 use lib.Signed.{lt_z}
 use borrow.Author.Differences.{ints}
 use Rattle.std.proofs.lemmas.Nat.{div-add-mod'}
-use Rattle.std.proofs.lemmas.Bool.{eq-eqb, ne_eqb, lt-ltb, le-ltb, and_left, and_right, true≢false}
+use Rattle.std.proofs.lemmas.Bool.{eq-eqb, ne_eqb}
 use Rattle.ledger.specs.Page.{Page, backward, row, column, number, cell_at}
 use Rattle.ledger.specs.Ledger.{ends_row}
 use Rattle.ledger.proofs.Steps.{row_next}
@@ -49,20 +49,16 @@ module _ (p : Page) (k : ℕ) (w : 1 ≤ p.width) where
 -- ---- the cell at a row and a column that may lie off the page
 pub off_left : (p : Page) (r : ℕ) (c : ℤ) → lt_z c (pos 0) ≡ true → cell_at p r c ≡ None
 unfolding cell_at
-off_left p r (pos c) h = absurd (omega (arith, ints))
-off_left p r (negsuc c) h = refl
+off_left p r c h = grind (arith, ints)
 
 pub off_below : (p : Page) (r : ℕ) (c : ℤ) → p.height ≤ r → cell_at p r c ≡ None
 unfolding cell_at
-off_below p r (pos c) h = rw (and_left (ltb r p.height) (ltb c p.width) (le-ltb r p.height h))
-off_below p r (negsuc c) h = refl
+off_below p r c h = grind (arith, ints)
 
 pub off_right : (p : Page) (r : ℕ) (c : ℤ) → lt_z c (pos 0) ≡ false → p.width ≤ nat_abs c → cell_at p r c ≡ None
 unfolding cell_at
-off_right p r (pos c) z h = rw (and_right (ltb r p.height) (ltb c p.width) (le-ltb c p.width h))
-off_right p r (negsuc c) z h = refl
+off_right p r c z h = grind (arith, ints)
 
 pub on_page : (p : Page) (r : ℕ) (c : ℤ) → lt_z c (pos 0) ≡ false → r < p.height → nat_abs c < p.width → cell_at p r c ≡ Some (number p r (nat_abs c))
 unfolding cell_at
-on_page p r (pos c) z h l = rw (lt-ltb r p.height h, lt-ltb c p.width l)
-on_page p r (negsuc c) z h l = absurd (true≢false z)
+on_page p r c z h l = grind (arith, ints)
