@@ -22,8 +22,7 @@ pub rest_small : (d : ℕ) (a : ℤ) → 1 ≤ d → nat_abs (a -ℤ pos d *ℤ 
 rest_small d a h = rw (← rem_is d a) (omega (arith, rem_below a (pos d) h))
 
 pub quotient_abs : (d : ℕ) (a : ℤ) (E : ℕ) → 1 ≤ d → nat_abs a ≤ d * E + (d - 1) → nat_abs (quot_z a (pos d)) ≤ E
-quotient_abs d (pos a) E h l = let m = div_below a d (suc E) h (omega arith) in omega (arith, ints)
-quotient_abs d (negsuc a) E h l = let m = div_below (suc a) d (suc E) h (omega arith) in omega (arith, ints)
+quotient_abs d a E h l = grind (arith, ints, div_below)
 
 -- the limits
 pub limited_in : (v : ℤ) → negsuc 254 ≤ℤ v → v ≤ℤ pos 510 → limited v ≡ v

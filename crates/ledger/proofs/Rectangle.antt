@@ -105,27 +105,18 @@ module _ (p : Page) (K : Shape) (s : Trace) (n : ℕ) (w : 1 ≤ p.width) (B : �
   held_abs : (r q : ℕ) → nat_abs (held r q) ≤ B
   unfolding held
   held_abs r zero = omega arith
-  held_abs r (suc q) = go (ltb (r * p.width + q) n) refl
-    where
-      go : (b : Bool) → ltb (r * p.width + q) n ≡ b → nat_abs (given b (s.rest (r * p.width + q))) ≤ B
-      go true e = small _ (ltb-true _ n e)
-      go false e = omega arith
+  held_abs r (suc q) = let b = small (r * p.width + q) in grind (arith, ints)
 
   rest_held : (r q : ℕ) → r * p.width + q < n → s.rest (r * p.width + q) ≡ held r (suc q)
   unfolding held
-  rest_held r q l = rw (lt-ltb (r * p.width + q) n l)
+  rest_held r q l = grind arith
 
   hand_held : (r q : ℕ) → q < p.width → r * p.width + q < n → in_hand p K s (r * p.width + q) ≡ held r q
   unfolding held in_hand
-  hand_held r zero h l = go (r * p.width + 0) refl
+  hand_held r q h l = go (r * p.width + q) refl
     where
-      go : (k : ℕ) → r * p.width + 0 ≡ k → in_hand p K s k ≡ pos 0
-      go zero e = refl
-      go (suc k) e = let z : suc k % p.width ≡ 0 = ap (λ m. m % p.width) (sym e) ∙ mod-mul-add r p.width 0 h in rw z
-  hand_held r (suc q) h l =
-      let e : r * p.width + suc q ≡ suc (r * p.width + q) = omega arith in
-      let z : suc (r * p.width + q) % p.width ≡ suc q = ap (λ m. m % p.width) (sym e) ∙ mod-mul-add r p.width (suc q) h in
-      rw (e, z, ne_eqb (suc q) 0 (λ e. omega arith), lt-ltb (r * p.width + q) n (omega arith))
+      go : (k : ℕ) → r * p.width + q ≡ k → in_hand p K s k ≡ held r q
+      go k e = grind (arith, mod-mul-add r p.width q h)
 
   gap : ℕ → ℕ → ℤ
   gap r q = s.rest (r * p.width + q) -ℤ in_hand p K s (r * p.width + q)

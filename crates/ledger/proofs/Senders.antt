@@ -32,18 +32,13 @@ turned p (negsuc r) = false
 abbrev pub sender : Page → (ℕ → ℤ) → ℕ → Tap → ℤ → ℤ → ℤ
 sender p e n t i c = error_at p e n (i -ℤ pos t.down) (ahead (not (turned p (i -ℤ pos t.down))) c t.ahead)
 
-pub error_at_abs : (p : Page) (e : ℕ → ℤ) (n E : ℕ) → ((k : ℕ) → k < n → nat_abs (e k) ≤ E) → (i c : ℤ) → nat_abs (error_at p e n i c) ≤ E
-unfolding error_at valued
-error_at_abs p e n E h (negsuc r) c = omega arith
-error_at_abs p e n E h (pos r) c = go (cell_at p r c)
-  where
-    tested : (j : ℕ) (b : Bool) → ltb j n ≡ b → nat_abs (given b (e j)) ≤ E
-    tested j true t = h j (ltb-true j n t)
-    tested j false t = omega arith
+valued_abs : (e : ℕ → ℤ) (n E : ℕ) → ((k : ℕ) → k < n → nat_abs (e k) ≤ E) → (o : Option ℕ) → nat_abs (valued e n o) ≤ E
+unfolding valued
+valued_abs e n E h o = grind (arith, ints, h)
 
-    go : (o : Option ℕ) → nat_abs (valued e n o) ≤ E
-    go None = omega arith
-    go (Some j) = tested j (ltb j n) refl
+pub error_at_abs : (p : Page) (e : ℕ → ℤ) (n E : ℕ) → ((k : ℕ) → k < n → nat_abs (e k) ≤ E) → (i c : ℤ) → nat_abs (error_at p e n i c) ≤ E
+unfolding error_at
+error_at_abs p e n E h i c = grind (arith, ints, valued_abs e n E h)
 
 pub hits_some : (k : ℕ) (o : Option ℕ) → hits k o ≡ true → o ≡ Some k
 hits_some k o h = grind arith
@@ -155,8 +150,8 @@ taps_abs (t ∷ ts) g E h =
 
 -- at a done cell
 pub error_at_done : (p : Page) (e : ℕ → ℤ) (n r c : ℕ) → r < p.height → c < p.width → number p r c < n → error_at p e n (pos r) (pos c) ≡ e (number p r c)
-unfolding error_at valued
-error_at_done p e n r c h l d = rw (cell_at_in p r c h l, lt-ltb (number p r c) n d)
+unfolding error_at valued cell_at
+error_at_done p e n r c h l d = grind arith
 
 pub pending_abs : (p : Page) (K : Shape) (s : Trace) (n m E : ℕ) → 1 ≤ p.width → m < cells p → ((j : ℕ) → j < n → nat_abs (s.error j) ≤ E) → nat_abs (pending p K s n m) ≤ weights K.taps * E
 pending_abs p K s n m E w l small =
