@@ -1,20 +1,21 @@
 -- A shape is refused exactly where it breaks a rule, and the index told is that of the first bad tap.
 use Rattle.std.proofs.Common.{◌≡◌, ℕ, ◌<◌, ◌≤◌, Bool, true, false, cond, not, ◌&&◌, ltb, leb, List, ◌∷◌, length, get_or, Some, None, Option, ap, ◌∙◌, arith}
 use Rattle.std.specs.List.{position_or_len}
+use Rattle.std.specs.Option.{is_none, option_or, option_map}
 use Rattle.std.proofs.lemmas.List.Quantifiers.{position-Some}
 use Rattle.std.proofs.lemmas.List.Sums.{fails_before_first}
 use Rattle.std.proofs.lemmas.Slice.Zip.{length-zip}
 use Rattle.kernel.specs.declared.tap.Tap.{Tap}
-use Rattle.kernel.specs.Rules.{origin, first_bad, weights, none, divisor_fits, count_fits}
-use Rattle.kernel.specs.Faults.{Refusal, plain}
-use Rattle.kernel.specs.Meaning.{refused_tap, Refused, keeps, FirstTold}
+use Rattle.kernel.specs.Rules.{origin, first_bad, weights, divisor_fits, count_fits}
+use Rattle.kernel.specs.Faults.{Refusal, plain, at_tap}
+use Rattle.kernel.specs.Meaning.{Refused, keeps, FirstTold}
 use Rattle.kernel.proofs.Neighbours.{broken, neighbours, first_bad-position, keeps-broken}
 
 abbrev refused_by : Bool → Bool → Option ℕ → Bool → Option Refusal
-refused_by d n o w = cond (not d) (Some (plain 11)) (cond (not n) (Some (plain 12)) (refused_tap o (cond w (Some (plain 14)) None)))
+refused_by d n o w = cond (not d) (Some (plain 11)) (cond (not n) (Some (plain 12)) (option_or (option_map at_tap o) (cond w (Some (plain 14)) None)))
 
 both : (d n : Bool) (o : Option ℕ) (w v : Bool) → not w ≡ v →
-    (refused_by d n o w ≡ None → (d && (n && (none o && v))) ≡ true) × ((d && (n && (none o && v))) ≡ true → refused_by d n o w ≡ None)
+    (refused_by d n o w ≡ None → (d && (n && (is_none o && v))) ≡ true) × ((d && (n && (is_none o && v))) ≡ true → refused_by d n o w ≡ None)
 both d n o w v e = ((λ q. grind arith), λ q. grind arith)
 
 above : (d w : ℕ) → not (ltb d w) ≡ leb w d

@@ -1,5 +1,6 @@
 -- What a kernel means, which refusal a shape meets, and what setting leaves.
 use Rattle.std.specs.Prelude.{◌≡◌, ℕ, zero, suc, ◌<◌, Bool, true, false, cond, not, ◌&&◌, List, length, take, Some, None, Option, Result, nat_lt, slice_index_or}
+use Rattle.std.specs.Option.{option_or, option_map}
 use Rattle.kernel.specs.declared.tap.Tap.{Tap}
 use Rattle.kernel.specs.declared.tap.KernelFault.{KernelFault}
 use Rattle.kernel.specs.declared.shape.Kernel.{Kernel}
@@ -10,16 +11,12 @@ use Rattle.kernel.specs.Faults.{Refusal, plain, at_tap, answered}
 abbrev pub meaning : Kernel → Shape
 meaning k = shape k.divisor (take k.len k.taps)
 
-abbrev pub refused_tap : Option ℕ → Option Refusal → Option Refusal
-refused_tap (Some i) next = Some (at_tap i)
-refused_tap None next = next
-
 -- The first refusal that a shape meets: 11 for its divisor, 12 for the number of its taps, 13 for a tap, 14 for W above D.
 abbrev pub refusal : Shape → Option Refusal
 refusal s =
     cond (not (divisor_fits s.divisor)) (Some (plain 11))
     (cond (not (count_fits (length s.taps))) (Some (plain 12))
-    (refused_tap (first_bad origin 0 s.taps)
+    (option_or (option_map at_tap (first_bad origin 0 s.taps))
     (cond (nat_lt s.divisor (weights s.taps)) (Some (plain 14)) None)))
 
 -- A shape is refused exactly where it breaks a rule.

@@ -1,5 +1,6 @@
 -- The published kernels. The tables are written out, and not read from the constants of the code: so a wrong tap there is refused.
-use Rattle.std.specs.Prelude.{◌≡◌, ℕ, Bool, true, ◌&&◌, List, [], ◌∷◌, map, pos, neg_ℤ}
+use Rattle.std.specs.Prelude.{◌≡◌, ℕ, true, List, [], ◌∷◌, map, pos, neg_ℤ}
+use Rattle.std.specs.List.{list_all}
 use Rattle.kernel.specs.declared.tap.Tap.{Tap}
 use Rattle.kernel.specs.declared.tables.Published.{Published}
 use Rattle.kernel.specs.declared.tables.Published.TheVariants as name
@@ -50,10 +51,6 @@ table name.Atkinson = atkinson
 abbrev pub tables : List Shape
 tables = floyd ∷ jarvis ∷ sierra3 ∷ sierra2 ∷ sierra1 ∷ atkinson ∷ []
 
-abbrev pub all_valid : List Shape → Bool
-all_valid [] = true
-all_valid (s ∷ ss) = valid s && all_valid ss
-
 -- all six keep the rules; their weights fill the divisor, but for Atkinson's, which pass on six of eight parts
 abbrev pub Checked : Type 0
-Checked = (all_valid tables ≡ true) × (map (λ s. weights s.taps) tables ≡ 16 ∷ 48 ∷ 32 ∷ 16 ∷ 4 ∷ 6 ∷ [])
+Checked = (list_all valid tables ≡ true) × (map (λ s. weights s.taps) tables ≡ 16 ∷ 48 ∷ 32 ∷ 16 ∷ 4 ∷ 6 ∷ [])

@@ -1,5 +1,6 @@
 -- The rules of a kernel, as a test that computes.
-use Rattle.std.specs.Prelude.{ℕ, suc, Bool, true, false, cond, ◌&&◌, ◌||◌, List, [], ◌∷◌, length, sum_by, ℤ, pos, neg_ℤ, Some, None, Option, ◌==◌, int_le, int_lt, nat_le, nat_lt}
+use Rattle.std.specs.Prelude.{ℕ, suc, Bool, cond, ◌&&◌, ◌||◌, List, [], ◌∷◌, length, sum_by, ℤ, pos, neg_ℤ, Some, None, Option, ◌==◌, int_le, int_lt, nat_le, nat_lt}
+use Rattle.std.specs.Option.{is_none}
 use Rattle.kernel.specs.declared.tap.Tap.{Tap}
 
 -- The limits are written out, and not read from the constants of the code: so a wrong constant is refused.
@@ -54,10 +55,6 @@ first_bad before i (t ∷ ts) = cond (fits t && rises before t) (first_bad t (su
 abbrev pub weights : List Tap → ℕ
 weights ts = sum_by (λ (t : Tap). t.weight) ts
 
-abbrev pub none : Option ℕ → Bool
-none None = true
-none (Some i) = false
-
 abbrev pub divisor_fits : ℕ → Bool
 divisor_fits d = nat_le 1 d && nat_le d most_divisor
 
@@ -69,5 +66,5 @@ abbrev pub valid : Shape → Bool
 valid s =
     divisor_fits s.divisor
     && (count_fits (length s.taps)
-    && (none (first_bad origin 0 s.taps)
+    && (is_none (first_bad origin 0 s.taps)
     && nat_le (weights s.taps) s.divisor))

@@ -1,7 +1,6 @@
 -- The ledger balances. Each cell adds as much to taken as to the other six accounts together; carried falls by A and grows by what the cell sends to the page and by the rest it hands on.
-use Rattle.std.proofs.Common.{◌≡◌, ℕ, suc, ◌<◌, ◌≤◌, Bool, true, false, not, List, [], ◌∷◌, ℤ, pos, ◌+ℤ◌, ◌-ℤ◌, ◌*ℤ◌, Some, None, Option, refl, ap, ◌∙◌, ⊎_elim, arith}
+use Rattle.std.proofs.Common.{◌≡◌, ℕ, suc, ◌<◌, ◌≤◌, Bool, not, List, [], ◌∷◌, ℤ, pos, ◌+ℤ◌, ◌-ℤ◌, ◌*ℤ◌, Some, Option, refl, ap, ◌∙◌, arith}
 use borrow.Author.Differences.{ints}
-use Rattle.std.proofs.lemmas.Bool.{cases_order, eq-eqb, ne_eqb, le-leb, lt-leb}
 use Rattle.std.proofs.lemmas.List.Sums.{sum_by-cons}
 use Rattle.ledger.specs.Sums.{Σ∈, given}
 use Rattle.kernel.specs.declared.tap.Tap.{Tap}
@@ -16,22 +15,14 @@ use Rattle.ledger.proofs.Page.{aims_later}
 
 -- what waits for the cells from n on waits for n, or for those after it
 waits_split : (o : Option ℕ) (n : ℕ) (z : ℤ) → given (waits n o) z ≡ given (hits n o) z +ℤ given (waits (suc n) o) z
-waits_split None n z = refl
-waits_split (Some m) n z = ⊎_elim
-    (λ e. rw (eq-eqb m n e, le-leb n m (omega arith), lt-leb (suc n) m (omega arith)) (omega (arith, ints)))
-    (⊎_elim
-    (λ l. rw (ne_eqb m n (λ e. omega arith), lt-leb n m l, lt-leb (suc n) m (omega arith)) (omega (arith, ints)))
-    (λ l. rw (ne_eqb m n (λ e. omega arith), le-leb n m (omega arith), le-leb (suc n) m l) (omega (arith, ints))))
-    (cases_order m n)
+waits_split o n z = grind (arith, ints)
 
 -- a tap of cell n aims at a later cell of the page, or off the page
 on_or_off : (o : Option ℕ) (n : ℕ) (z : ℤ) → ((m : ℕ) → o ≡ Some m → n < m) → given (waits (suc n) o) z +ℤ given (off o) z ≡ z
-on_or_off None n z h = omega (arith, ints)
-on_or_off (Some m) n z h = rw (le-leb (suc n) m (h m refl)) (omega (arith, ints))
+on_or_off o n z h = grind (arith, ints, h)
 
 hand_or_end : (b : Bool) (z : ℤ) → given (not b) z +ℤ given b z ≡ z
-hand_or_end true z = omega (arith, ints)
-hand_or_end false z = omega (arith, ints)
+hand_or_end b z = grind (arith, ints)
 
 pub taps_on_or_off : (p : Page) (n : ℕ) (e : ℤ) (ts : List Tap) → 1 ≤ p.width → EachAhead ts →
     Σ∈ ts (λ t. given (waits (suc n) (aimed p t n)) (pos t.weight *ℤ e)) +ℤ Σ∈ ts (λ t. given (off (aimed p t n)) (pos t.weight *ℤ e)) ≡ pos (weights ts) *ℤ e

@@ -1,31 +1,28 @@
 -- The size of errors and rests. Each tap has at most one sender, so |A| is at most W × E + (D - 1) where all errors before are within E; then |q| is at most E, u stays where the spread holds, and the next error is within E too.
-use Rattle.std.proofs.Common.{◌≡◌, ℕ, zero, suc, ◌+◌, ◌-◌, ◌*◌, ◌/◌, ◌<◌, ◌≤◌, not, ℤ, pos, negsuc, ◌+ℤ◌, ◌-ℤ◌, ◌*ℤ◌, nat_abs, ◌≤ℤ◌, ◌∙◌, ⊎_elim, mul-le-mul_right, arith}
+use Rattle.std.proofs.Common.{◌≡◌, ℕ, zero, suc, ◌+◌, ◌-◌, ◌*◌, ◌<◌, ◌≤◌, not, ℤ, pos, negsuc, ◌+ℤ◌, ◌-ℤ◌, ◌*ℤ◌, nat_abs, ◌≤ℤ◌, ◌∙◌, ⊎_elim, mul-le-mul_right, arith}
 use lib.Signed.{quot_z, rem_z}
 use borrow.Author.Differences.{ints}
 use Rattle.std.proofs.lemmas.Bool.{cases_eq}
-use Rattle.std.proofs.lemmas.Nat.{div_below, mod_below, div-add-mod'}
+use Rattle.std.proofs.lemmas.Int.{quot-rem, rem_below}
+use Rattle.std.proofs.lemmas.Nat.{div_below}
 use Rattle.ledger.specs.Page.{Page, cells, row, column}
 use Rattle.ledger.specs.Ledger.{Trace, ends_row, in_hand, pending, sum, quotient, limited, wanted, used, Diffused, clipped}
 use Rattle.kernel.specs.Rules.{Shape, weights}
 use Rattle.ledger.specs.Laws.{Between}
 use Rattle.ledger.proofs.Kernels.{Sound}
-use Rattle.ledger.proofs.Ring.{mul_sub, mul_neg, abs_add}
+use Rattle.ledger.proofs.Ring.{mul_sub, abs_add}
 use Rattle.ledger.proofs.Sums.{given_abs, ΣZero}
 use Rattle.ledger.proofs.Senders.{error_at_abs, brought_is, taps_abs, sender}
 
--- division toward zero
-pub rest_small : (d : ℕ) (a : ℤ) → 1 ≤ d → nat_abs (a -ℤ pos d *ℤ quot_z a (pos d)) ≤ d - 1
-rest_small d (pos a) h = let m = mod_below a d h in let e = div-add-mod' a d in omega (arith, ints)
-rest_small d (negsuc a) h = rw (mul_neg (pos d) (pos (suc a / d))) (let m = mod_below (suc a) d h in let e = div-add-mod' (suc a) d in omega (arith, ints))
-
--- the rest by Rust's `%`
+-- division toward zero, and the rest by Rust's `%`
 pub rem_is : (d : ℕ) (a : ℤ) → rem_z a (pos d) ≡ a -ℤ pos d *ℤ quot_z a (pos d)
-rem_is d (pos a) = let e = div-add-mod' a d in omega (arith, ints)
-rem_is d (negsuc a) = rw (mul_neg (pos d) (pos (suc a / d))) (let e = div-add-mod' (suc a) d in omega (arith, ints))
+rem_is d a = omega (arith, ints, quot-rem a (pos d))
+
+pub rest_small : (d : ℕ) (a : ℤ) → 1 ≤ d → nat_abs (a -ℤ pos d *ℤ quot_z a (pos d)) ≤ d - 1
+rest_small d a h = rw (← rem_is d a) (omega (arith, rem_below a (pos d) h))
 
 pub quotient_abs : (d : ℕ) (a : ℤ) (E : ℕ) → 1 ≤ d → nat_abs a ≤ d * E + (d - 1) → nat_abs (quot_z a (pos d)) ≤ E
-quotient_abs d (pos a) E h l = let m = div_below a d (suc E) h (omega arith) in omega (arith, ints)
-quotient_abs d (negsuc a) E h l = let m = div_below (suc a) d (suc E) h (omega arith) in omega (arith, ints)
+quotient_abs d a E h l = grind (arith, ints, div_below)
 
 -- the limits
 pub limited_in : (v : ℤ) → negsuc 254 ≤ℤ v → v ≤ℤ pos 510 → limited v ≡ v

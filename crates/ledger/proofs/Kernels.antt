@@ -1,11 +1,11 @@
 -- What the laws need of a kernel, drawn from its rules: a tap in the sending row aims ahead, taps reach so many rows down, and W is at most D.
-use Rattle.std.proofs.Common.{◌≡◌, ℕ, zero, suc, ◌<◌, ◌≤◌, Bool, true, false, cond, ◌&&◌, ◌||◌, ltb, leb, List, [], ◌∷◌, length, get_or, ℤ, pos, neg_ℤ, ◌≤ℤ◌, Some, sym, refl, arith}
-use lib.Signed.{le_z}
+use Rattle.std.proofs.Common.{◌≡◌, ℕ, zero, suc, ◌<◌, ◌≤◌, Bool, true, false, cond, ◌&&◌, List, [], ◌∷◌, length, get_or, pos, ◌≤ℤ◌, Some, refl, arith}
 use borrow.Author.Differences.{ints}
+use Rattle.std.specs.Option.{is_none}
 use Rattle.std.proofs.lemmas.List.Sums.{get_or-le-sum_by}
-use Rattle.std.proofs.lemmas.Bool.{and_parts, leb-true, true≢false}
+use Rattle.std.proofs.lemmas.Bool.{and_parts}
 use Rattle.kernel.specs.declared.tap.Tap.{Tap}
-use Rattle.kernel.specs.Rules.{Shape, rows_down, columns_aside, most_divisor, fits, rises, origin, first_bad, weights, none, divisor_fits, count_fits, valid}
+use Rattle.kernel.specs.Rules.{Shape, rows_down, most_divisor, fits, rises, origin, first_bad, weights, valid}
 
 abbrev pub EachAhead : List Tap → Type 0
 EachAhead [] = Unit {0}
@@ -23,41 +23,28 @@ pub record Sound (K : Shape) : Type 0 where
   pub each_ahead : EachAhead K.taps
   pub each_reaches : EachReaches rows_down K.taps
 
-one_ahead : (d : ℕ) (a : ℤ) → (ltb 0 d || le_z (pos 1) a) ≡ true → d ≡ 0 → pos 1 ≤ℤ a
-one_ahead zero a h e = grind (arith, ints)
-one_ahead (suc d) a h e = absurd (omega arith)
-
 reach_of : (t : Tap) → fits t ≡ true → (t.down ≤ rows_down) × (t.down ≡ 0 → pos 1 ≤ℤ t.ahead)
-reach_of t h =
-    let a = and_parts (leb t.down rows_down) _ h in
-    let b = and_parts (le_z (neg_ℤ (pos columns_aside)) t.ahead) _ a.1 in
-    let c = and_parts (le_z t.ahead (pos columns_aside)) _ b.1 in
-    let d = and_parts (ltb 0 t.down || le_z (pos 1) t.ahead) _ c.1 in
-    (leb-true t.down rows_down a.0, one_ahead t.down t.ahead d.0)
+reach_of t h = grind (arith, ints)
 
-walked : (before : Tap) (i : ℕ) (ts : List Tap) → none (first_bad before i ts) ≡ true → EachAhead ts × EachReaches rows_down ts
+walked : (before : Tap) (i : ℕ) (ts : List Tap) → is_none (first_bad before i ts) ≡ true → EachAhead ts × EachReaches rows_down ts
 walked before i [] h = (tt, tt)
 walked before i (t ∷ ts) h = go (fits t && rises before t) refl h (λ q. walked t (suc i) ts q)
   where
-    go : (b : Bool) → (fits t && rises before t) ≡ b → none (cond b (first_bad t (suc i) ts) (Some i)) ≡ true →
-        (none (first_bad t (suc i) ts) ≡ true → EachAhead ts × EachReaches rows_down ts) → EachAhead (t ∷ ts) × EachReaches rows_down (t ∷ ts)
+    go : (b : Bool) → (fits t && rises before t) ≡ b → is_none (cond b (first_bad t (suc i) ts) (Some i)) ≡ true →
+        (is_none (first_bad t (suc i) ts) ≡ true → EachAhead ts × EachReaches rows_down ts) → EachAhead (t ∷ ts) × EachReaches rows_down (t ∷ ts)
     go true e q more =
         let f = reach_of t (and_parts (fits t) (rises before t) e).0 in
         let m = more q in
         ((f.1, m.0), (f.0, m.1))
-    go false e q more = absurd (true≢false (sym q))
+    go false e q more = cc
 
 pub sound : (K : Shape) → valid K ≡ true → Sound K
 sound K h =
-    let a = and_parts (divisor_fits K.divisor) _ h in
-    let b = and_parts (count_fits (length K.taps)) _ a.1 in
-    let c = and_parts (none (first_bad origin 0 K.taps)) _ b.1 in
-    let d = and_parts (leb 1 K.divisor) _ a.0 in
-    let w = walked origin 0 K.taps c.0 in
+    let w = walked origin 0 K.taps (grind arith) in
     record {
-      some_divisor = leb-true 1 K.divisor d.0;
-      small_divisor = leb-true K.divisor most_divisor d.1;
-      at_most = leb-true (weights K.taps) K.divisor c.1;
+      some_divisor = grind arith;
+      small_divisor = grind arith;
+      at_most = grind arith;
       each_ahead = w.0;
       each_reaches = w.1;
     }

@@ -1,67 +1,50 @@
 -- A cell's number, row and column give one another; taps aim at later cells.
-use Rattle.std.proofs.Common.{◌≡◌, ℕ, zero, suc, ◌+◌, ◌-◌, ◌*◌, ◌/◌, ◌%◌, ◌<◌, ◌≤◌, Bool, true, false, cond, ◌&&◌, ltb, ℤ, pos, negsuc, ◌≤ℤ◌, Some, None, sym, refl, ap, ◌∙◌, arith}
+use Rattle.std.proofs.Common.{◌≡◌, ℕ, zero, suc, ◌+◌, ◌-◌, ◌/◌, ◌<◌, ◌≤◌, Bool, true, false, cond, ◌&&◌, ltb, ℤ, pos, negsuc, ◌≤ℤ◌, Some, None, sym, refl, ap, ◌∙◌, arith}
 use borrow.Author.Differences.{ints}
-use Rattle.std.proofs.lemmas.Bool.{and_parts, ltb-true, lt-ltb}
-use Rattle.std.proofs.lemmas.Nat.{div-mul-add, mod-mul-add, mul-add-lt, mod_below, div_below, div-add-mod'}
+use Rattle.std.proofs.lemmas.Bool.{and_parts, ltb-true}
+use Rattle.std.proofs.lemmas.Option.{none-some}
+use Rattle.std.proofs.lemmas.Nat.{div-mul-add, mod-mul-add, mod_below, div-add-mod', rows}
 use Rattle.kernel.specs.declared.tap.Tap.{Tap}
 use Rattle.ledger.specs.Page.{Page, backward, cells, row, column, number, cell_at, ahead, aimed}
 
--- the position in a row, from a column or back
-turned_below : (b : Bool) (w i : ℕ) → i < w → cond b (w - 1 - i) i < w
-turned_below true w i h = omega arith
-turned_below false w i h = h
-
-turned_twice : (b : Bool) (w i : ℕ) → i < w → cond b (w - 1 - cond b (w - 1 - i) i) (cond b (w - 1 - i) i) ≡ i
-turned_twice true w i h = omega arith
-turned_twice false w i h = refl
-
 pub column_below : (p : Page) (k : ℕ) → 1 ≤ p.width → column p k < p.width
 unfolding column
-column_below p k h = turned_below (backward p (k / p.width)) p.width (k % p.width) (mod_below k p.width h)
+column_below p k h = grind (arith, mod_below k p.width h)
 
 pub number_of : (p : Page) (k : ℕ) → 1 ≤ p.width → number p (row p k) (column p k) ≡ k
 unfolding number column
-number_of p k h =
-    ap (λ i. k / p.width * p.width + i) (turned_twice (backward p (k / p.width)) p.width (k % p.width) (mod_below k p.width h))
-    ∙ div-add-mod' k p.width
+number_of p k h = grind (arith, div-add-mod' k p.width, mod_below k p.width h)
 
 pub row_number : (p : Page) (r c : ℕ) → c < p.width → row p (number p r c) ≡ r
 unfolding number
-row_number p r c h = div-mul-add r p.width _ (turned_below (backward p r) p.width c h)
+row_number p r c h = grind (arith, div-mul-add)
 
 pub column_number : (p : Page) (r c : ℕ) → c < p.width → column p (number p r c) ≡ c
 unfolding number column
-column_number p r c h =
-    let m = turned_below (backward p r) p.width c h in
-    let e = div-mul-add r p.width _ m in
-    let f = mod-mul-add r p.width _ m in
-    rw (e, f) (turned_twice (backward p r) p.width c h)
+column_number p r c h = grind (arith, div-mul-add, mod-mul-add)
 
 pub number_below : (p : Page) (r c : ℕ) → r < p.height → c < p.width → number p r c < cells p
 unfolding number
-number_below p r c h l = mul-add-lt r p.width _ p.height h (turned_below (backward p r) p.width c l)
+number_below p r c h l = grind (arith, rows)
 
 pub row_below : (p : Page) (k : ℕ) → 1 ≤ p.width → k < cells p → row p k < p.height
-row_below p k h l = div_below k p.width p.height h (omega arith)
-
-pub none_ne_some : (n : ℕ) → None ≡ Some n → ⊥
-none_ne_some n e = let z : ◌≡◌ {A = ℕ} 0 1 = cc in omega arith
+row_below p k h l = grind (arith, rows)
 
 -- ---- a place that is on the page
 pub cell_at_in : (p : Page) (r c : ℕ) → r < p.height → c < p.width → cell_at p r (pos c) ≡ Some (number p r c)
 unfolding cell_at
-cell_at_in p r c h l = rw (lt-ltb r p.height h, lt-ltb c p.width l)
+cell_at_in p r c h l = grind arith
 
 pub cell_at_out : (p : Page) (r : ℕ) (c : ℤ) (m : ℕ) → cell_at p r c ≡ Some m → (i : ℕ) × (c ≡ pos i) × (r < p.height) × (i < p.width) × (m ≡ number p r i)
 unfolding cell_at
-cell_at_out p r (negsuc c) m e = absurd (none_ne_some m e)
+cell_at_out p r (negsuc c) m e = absurd (none-some m e)
 cell_at_out p r (pos c) m e = go (ltb r p.height && ltb c p.width) refl e
   where
     go : (t : Bool) → (ltb r p.height && ltb c p.width) ≡ t → cond t (Some (number p r c)) None ≡ Some m → (i : ℕ) × (pos c ≡ pos i) × (r < p.height) × (i < p.width) × (m ≡ number p r i)
     go true t e =
         let b = and_parts (ltb r p.height) (ltb c p.width) t in
         (c, refl, ltb-true r p.height b.0, ltb-true c p.width b.1, (cc))
-    go false t e = absurd (none_ne_some m e)
+    go false t e = absurd (none-some m e)
 
 -- ---- the cell that a tap aims at: its row and column
 pub aimed_out : (p : Page) (t : Tap) (j m : ℕ) → aimed p t j ≡ Some m → (row p m ≡ row p j + t.down) × (pos (column p m) ≡ ahead (backward p (row p j)) (pos (column p j)) t.ahead) × (m < cells p)
@@ -79,16 +62,10 @@ aimed_in p t j k w l e f =
 -- later in the same row, or in a later row
 step_ahead : (b : Bool) (w i j : ℕ) (a : ℤ) → i < w → j < w → pos 1 ≤ℤ a → pos j ≡ ahead b (pos i) a → cond b (w - 1 - i) i < cond b (w - 1 - j) j
 unfolding ahead
-step_ahead true w i j a h l one e = omega (arith, ints)
-step_ahead false w i j a h l one e = omega (arith, ints)
+step_ahead b w i j a h l one e = grind (arith, ints)
 
 later_row : (w j m d : ℕ) → 1 ≤ w → m / w ≡ j / w + suc d → j < m
-later_row w j m d h e =
-    let small = mod_below j w h in
-    let split-j = div-add-mod' j w in
-    let split-m = div-add-mod' m w in
-    let times = ap (λ n. n * w) e in
-    omega arith
+later_row w j m d h e = grind (arith, rows, mod_below j w h, div-add-mod' j w, div-add-mod' m w)
 
 pub aims_later : (p : Page) (t : Tap) (j m : ℕ) → 1 ≤ p.width → (t.down ≡ 0 → pos 1 ≤ℤ t.ahead) → aimed p t j ≡ Some m → j < m
 unfolding number
@@ -108,5 +85,5 @@ aims_later p t j m h rule e = go t.down refl
 
 -- a page of width 0 has no cell to aim at
 pub none_aimed : (p : Page) (t : Tap) (j m : ℕ) → p.width ≡ 0 → aimed p t j ≡ Some m → ⊥
-unfolding aimed
-none_aimed p t j m z e = let o = cell_at_out p (row p j + t.down) _ m e in let i = o.3 in omega arith
+unfolding aimed cell_at
+none_aimed p t j m z e = grind (arith, ints)

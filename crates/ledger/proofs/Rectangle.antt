@@ -4,6 +4,7 @@ use Rattle.std.proofs.Common.{◌≡◌, ℕ, zero, suc, ◌+◌, ◌-◌, ◌*�
 use borrow.Author.Differences.{ints}
 use Rattle.std.proofs.lemmas.Bool.{ltb-true, lt-ltb, ne_eqb}
 use Rattle.std.proofs.lemmas.Nat.{mod-mul-add}
+use Rattle.std.proofs.lemmas.Int.{unsigned_abs-mul}
 use Rattle.std.proofs.lemmas.List.Sums.{sum_by-cons}
 use Rattle.ledger.specs.Sums.{Σ<, Σ∈, given}
 use Rattle.kernel.specs.declared.tap.Tap.{Tap}
@@ -12,7 +13,7 @@ use Rattle.ledger.specs.Ledger.{Trace, in_hand, pending, quotient, wanted, used,
 use Rattle.kernel.specs.Rules.{Shape, weights}
 use Rattle.ledger.specs.Laws.{across, downward, Rectangle, inside, RectanglesWithin}
 use Rattle.ledger.proofs.Kernels.{Sound}
-use Rattle.ledger.proofs.Ring.{mul_sub, sub_mul, add_mul, abs_add, abs_sub, abs_pos_mul}
+use Rattle.ledger.proofs.Ring.{mul_sub, sub_mul, add_mul, abs_add, abs_sub}
 use Rattle.ledger.proofs.Sums.{ΣExt, ΣAdd, ΣSub, ΣMul, ΣAbs, ΣTelescope, ΣTelescopeDown, Σ∈Ext, ΣSwap, grid, grid_ext, grid_add, grid_abs}
 use Rattle.ledger.proofs.Page.{row_number, column_number}
 use Rattle.ledger.proofs.Senders.{error_at, error_at_abs, error_at_done, sender, brought_is}
@@ -88,7 +89,7 @@ all_taps_abs : (ts : List Tap) (g : Tap → ℤ) (h w E : ℕ) → ((t : Tap) �
     nat_abs (Σ∈ ts (λ t. pos t.weight *ℤ g t)) ≤ 2 * E * (sum_by (λ (t : Tap). t.weight * nat_abs t.ahead) ts * h + sum_by (λ (t : Tap). t.weight * t.down) ts * w)
 all_taps_abs [] g h w E b = omega arith
 all_taps_abs (t ∷ ts) g h w E b =
-    let one = abs_pos_mul t.weight (g t) in
+    let one = unsigned_abs-mul (pos t.weight) (g t) in
     let times = mul-le-mul_left t.weight (b t) in
     let more = all_taps_abs ts g h w E b in
     let both = abs_add (pos t.weight *ℤ g t) (Σ∈ ts (λ t. pos t.weight *ℤ g t)) in
@@ -104,27 +105,18 @@ module _ (p : Page) (K : Shape) (s : Trace) (n : ℕ) (w : 1 ≤ p.width) (B : �
   held_abs : (r q : ℕ) → nat_abs (held r q) ≤ B
   unfolding held
   held_abs r zero = omega arith
-  held_abs r (suc q) = go (ltb (r * p.width + q) n) refl
-    where
-      go : (b : Bool) → ltb (r * p.width + q) n ≡ b → nat_abs (given b (s.rest (r * p.width + q))) ≤ B
-      go true e = small _ (ltb-true _ n e)
-      go false e = omega arith
+  held_abs r (suc q) = let b = small (r * p.width + q) in grind (arith, ints)
 
   rest_held : (r q : ℕ) → r * p.width + q < n → s.rest (r * p.width + q) ≡ held r (suc q)
   unfolding held
-  rest_held r q l = rw (lt-ltb (r * p.width + q) n l)
+  rest_held r q l = grind arith
 
   hand_held : (r q : ℕ) → q < p.width → r * p.width + q < n → in_hand p K s (r * p.width + q) ≡ held r q
   unfolding held in_hand
-  hand_held r zero h l = go (r * p.width + 0) refl
+  hand_held r q h l = go (r * p.width + q) refl
     where
-      go : (k : ℕ) → r * p.width + 0 ≡ k → in_hand p K s k ≡ pos 0
-      go zero e = refl
-      go (suc k) e = let z : suc k % p.width ≡ 0 = ap (λ m. m % p.width) (sym e) ∙ mod-mul-add r p.width 0 h in rw z
-  hand_held r (suc q) h l =
-      let e : r * p.width + suc q ≡ suc (r * p.width + q) = omega arith in
-      let z : suc (r * p.width + q) % p.width ≡ suc q = ap (λ m. m % p.width) (sym e) ∙ mod-mul-add r p.width (suc q) h in
-      rw (e, z, ne_eqb (suc q) 0 (λ e. omega arith), lt-ltb (r * p.width + q) n (omega arith))
+      go : (k : ℕ) → r * p.width + q ≡ k → in_hand p K s k ≡ held r q
+      go k e = grind (arith, mod-mul-add r p.width q h)
 
   gap : ℕ → ℕ → ℤ
   gap r q = s.rest (r * p.width + q) -ℤ in_hand p K s (r * p.width + q)
@@ -192,7 +184,7 @@ module _ (p : Page) (K : Shape) (s : Trace) (n E : ℕ) (w : 1 ≤ p.width) (sou
   kept_abs = grid_abs high wide _ kept (λ i j l m.
       let few = sound.at_most in
       let z : pos K.divisor -ℤ pos (weights K.taps) ≡ pos (K.divisor - weights K.taps) = omega (arith, ints) in
-      rw (z, abs_pos_mul (K.divisor - weights K.taps) (s.error (k i j))) (mul-le-mul_left (K.divisor - weights K.taps) (small (k i j) (rect.all_done i j l m))))
+      rw (z, unsigned_abs-mul (pos (K.divisor - weights K.taps)) (s.error (k i j))) (mul-le-mul_left (K.divisor - weights K.taps) (small (k i j) (rect.all_done i j l m))))
 
   rests_abs : nat_abs (grid high wide rests) ≤ high * (2 * (K.divisor - 1))
   unfolding rests k

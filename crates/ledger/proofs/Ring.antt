@@ -1,6 +1,6 @@
 -- Whole numbers: the laws of the product, and sizes.
-use Rattle.std.proofs.Common.{◌≡◌, ℕ, ◌+◌, ◌*◌, ◌≤◌, ℤ, pos, negsuc, ◌+ℤ◌, ◌-ℤ◌, ◌*ℤ◌, neg_ℤ, nat_abs, ap, ◌∙◌, arith}
-use borrow.Author.Differences.{ints, up, down, product_is, sum_is_lem, neg_is}
+use Rattle.std.proofs.Common.{◌≡◌, ◌+◌, ◌*◌, ◌≤◌, ℤ, ◌+ℤ◌, ◌-ℤ◌, ◌*ℤ◌, neg_ℤ, nat_abs, ap, arith}
+use borrow.Author.Differences.{ints, up, down, product_is, sum_is_lem}
 
 pub mul_add : (a b c : ℤ) → a *ℤ (b +ℤ c) ≡ a *ℤ b +ℤ a *ℤ c
 mul_add a b c =
@@ -12,12 +12,7 @@ pub mul_comm : (a b : ℤ) → a *ℤ b ≡ b *ℤ a
 mul_comm a b = omega (arith, ints)
 
 pub mul_neg : (a b : ℤ) → a *ℤ neg_ℤ b ≡ neg_ℤ (a *ℤ b)
-mul_neg a b =
-    let u = ap (λ n. up a * n) (neg_is b).0 in
-    let v = ap (λ n. up a * n) (neg_is b).1 in
-    let x = ap (λ n. down a * n) (neg_is b).0 in
-    let y = ap (λ n. down a * n) (neg_is b).1 in
-    omega (arith, ints)
+mul_neg a b = grind (arith, ints)
 
 pub mul_sub : (a b c : ℤ) → a *ℤ (b -ℤ c) ≡ a *ℤ b -ℤ a *ℤ c
 mul_sub a b c = omega (arith, ints, mul_add a b (neg_ℤ c), mul_neg a c)
@@ -42,12 +37,8 @@ abs_add a b = omega (arith, ints)
 pub abs_sub : (a b : ℤ) → nat_abs (a -ℤ b) ≤ nat_abs a + nat_abs b
 abs_sub a b = omega (arith, ints)
 
-pub abs_pos_mul : (a : ℕ) (b : ℤ) → nat_abs (pos a *ℤ b) ≡ a * nat_abs b
-abs_pos_mul a (pos n) = omega (arith, ints)
-abs_pos_mul a (negsuc n) = omega (arith, ints)
-
 pub sub_mul : (a b c : ℤ) → (a -ℤ b) *ℤ c ≡ a *ℤ c -ℤ b *ℤ c
-sub_mul a b c = mul_comm (a -ℤ b) c ∙ mul_sub c a b ∙ omega (arith, ints)
+sub_mul a b c = omega (arith, ints, mul_sub c a b)
 
 pub add_mul : (a b c : ℤ) → (a +ℤ b) *ℤ c ≡ a *ℤ c +ℤ b *ℤ c
-add_mul a b c = mul_comm (a +ℤ b) c ∙ mul_add c a b ∙ omega (arith, ints)
+add_mul a b c = omega (arith, ints, mul_add c a b)

@@ -1,7 +1,9 @@
 -- What is sent to a cell, read at the cells that send it: for each tap there is one sender, or none.
 use Rattle.std.proofs.Common.{◌≡◌, ℕ, ◌+◌, ◌-◌, ◌*◌, ◌<◌, ◌≤◌, Bool, true, false, not, ltb, List, [], ◌∷◌, ℤ, pos, negsuc, ◌+ℤ◌, ◌-ℤ◌, ◌*ℤ◌, nat_abs, Some, None, Option, sym, refl, ap, ◌∙◌, ⊎_elim, mul-le-mul_left, arith}
 use borrow.Author.Differences.{ints}
-use Rattle.std.proofs.lemmas.Bool.{cases_lt, true≢false, eqb-true, eq-eqb, lt-ltb, ltb-true, ltb-false}
+use Rattle.std.proofs.lemmas.Bool.{cases_lt, eq-eqb, lt-ltb, ltb-true, ltb-false}
+use Rattle.std.proofs.lemmas.Option.{none-some}
+use Rattle.std.proofs.lemmas.Int.{unsigned_abs-mul}
 use Rattle.std.proofs.lemmas.List.Sums.{sum_by-cons}
 use Rattle.ledger.specs.Sums.{Σ<, Σ∈, given}
 use Rattle.kernel.specs.declared.tap.Tap.{Tap}
@@ -9,9 +11,9 @@ use Rattle.ledger.specs.Page.{Page, backward, cells, row, column, number, cell_a
 use Rattle.ledger.specs.Ledger.{Trace, sent, pending}
 use Rattle.kernel.specs.Rules.{Shape, weights}
 use Rattle.ledger.proofs.Kernels.{EachAhead}
-use Rattle.ledger.proofs.Ring.{abs_add, abs_pos_mul}
+use Rattle.ledger.proofs.Ring.{abs_add}
 use Rattle.ledger.proofs.Sums.{ΣExt, ΣZero, ΣAdd, ΣMul, ΣOne, ΣNone}
-use Rattle.ledger.proofs.Page.{none_ne_some, column_below, number_of, row_number, column_number, row_below, cell_at_in, cell_at_out, aimed_out, aimed_in, aims_later}
+use Rattle.ledger.proofs.Page.{column_below, number_of, row_number, column_number, row_below, cell_at_in, cell_at_out, aimed_out, aimed_in, aims_later}
 
 -- the error at row i and column c, and 0 off the page and at the cells from n on
 unfoldable pub valued : (ℕ → ℤ) → ℕ → Option ℕ → ℤ
@@ -30,32 +32,24 @@ turned p (negsuc r) = false
 abbrev pub sender : Page → (ℕ → ℤ) → ℕ → Tap → ℤ → ℤ → ℤ
 sender p e n t i c = error_at p e n (i -ℤ pos t.down) (ahead (not (turned p (i -ℤ pos t.down))) c t.ahead)
 
-pub error_at_abs : (p : Page) (e : ℕ → ℤ) (n E : ℕ) → ((k : ℕ) → k < n → nat_abs (e k) ≤ E) → (i c : ℤ) → nat_abs (error_at p e n i c) ≤ E
-unfolding error_at valued
-error_at_abs p e n E h (negsuc r) c = omega arith
-error_at_abs p e n E h (pos r) c = go (cell_at p r c)
-  where
-    tested : (j : ℕ) (b : Bool) → ltb j n ≡ b → nat_abs (given b (e j)) ≤ E
-    tested j true t = h j (ltb-true j n t)
-    tested j false t = omega arith
+valued_abs : (e : ℕ → ℤ) (n E : ℕ) → ((k : ℕ) → k < n → nat_abs (e k) ≤ E) → (o : Option ℕ) → nat_abs (valued e n o) ≤ E
+unfolding valued
+valued_abs e n E h o = grind (arith, ints, h)
 
-    go : (o : Option ℕ) → nat_abs (valued e n o) ≤ E
-    go None = omega arith
-    go (Some j) = tested j (ltb j n) refl
+pub error_at_abs : (p : Page) (e : ℕ → ℤ) (n E : ℕ) → ((k : ℕ) → k < n → nat_abs (e k) ≤ E) → (i c : ℤ) → nat_abs (error_at p e n i c) ≤ E
+unfolding error_at
+error_at_abs p e n E h i c = grind (arith, ints, valued_abs e n E h)
 
 pub hits_some : (k : ℕ) (o : Option ℕ) → hits k o ≡ true → o ≡ Some k
-hits_some k None h = absurd (true≢false (sym h))
-hits_some k (Some m) h = ap Some (eqb-true m k h)
+hits_some k o h = grind arith
 
 back_again : (b : Bool) (c d a : ℤ) → d ≡ ahead b c a → c ≡ ahead (not b) d a
 unfolding ahead
-back_again true c d a e = omega (arith, ints)
-back_again false c d a e = omega (arith, ints)
+back_again b c d a e = grind (arith, ints)
 
 forth_again : (b : Bool) (c d a : ℤ) → c ≡ ahead (not b) d a → d ≡ ahead b c a
 unfolding ahead
-forth_again true c d a e = omega (arith, ints)
-forth_again false c d a e = omega (arith, ints)
+forth_again b c d a e = grind (arith, ints)
 
 -- The one cell whose tap t aims at cell k, or none: it stands at row r and column c. The sum runs over the first N cells, and the errors read are of the first n; the cells that aim at k are in both or in neither.
 module _ (p : Page) (e : ℕ → ℤ) (N n k : ℕ) (t : Tap) (w : 1 ≤ p.width) (l : k < cells p) (agree : (j : ℕ) → aimed p t j ≡ Some k → ltb j N ≡ ltb j n) where
@@ -80,7 +74,7 @@ module _ (p : Page) (e : ℕ → ℤ) (N n k : ℕ) (t : Tap) (w : 1 ≤ p.width
 
     at_sender : (o : Option ℕ) → cell_at p r c ≡ o → Σ< N (λ j. given (hits k (aimed p t j)) (e j)) ≡ valued e n o
     unfolding valued
-    at_sender None y = ΣNone N (λ j. hits k (aimed p t j)) e (λ j i h. none_ne_some j (sym y ∙ sender_cell j h))
+    at_sender None y = ΣNone N (λ j. hits k (aimed p t j)) e (λ j i h. none-some j (sym y ∙ sender_cell j h))
     at_sender (Some j) y = rw (← agree j (sender_aims j y)) (go (ltb j N) refl)
       where
         only : (i : ℕ) → hits k (aimed p t i) ≡ true → i ≡ j
@@ -106,8 +100,7 @@ module _ (p : Page) (e : ℕ → ℤ) (N n k : ℕ) (t : Tap) (w : 1 ≤ p.width
 
 -- all that is sent to cell k
 given_mul : (b : Bool) (w e : ℤ) → given b (w *ℤ e) ≡ w *ℤ given b e
-given_mul true w e = refl
-given_mul false w e = omega (arith, ints)
+given_mul b w e = grind (arith, ints)
 
 Agree : Page → ℕ → ℕ → ℕ → List Tap → Type 0
 Agree p N n k [] = Unit {0}
@@ -149,7 +142,7 @@ brought_is p K s n k w a l m = brought_by p s.error k n k K.taps w l (sooner p n
 pub taps_abs : (ts : List Tap) (g : Tap → ℤ) (E : ℕ) → ((t : Tap) → nat_abs (g t) ≤ E) → nat_abs (Σ∈ ts (λ t. pos t.weight *ℤ g t)) ≤ weights ts * E
 taps_abs [] g E h = omega arith
 taps_abs (t ∷ ts) g E h =
-    let one = abs_pos_mul t.weight (g t) in
+    let one = unsigned_abs-mul (pos t.weight) (g t) in
     let times = mul-le-mul_left t.weight (h t) in
     let more = taps_abs ts g E h in
     let both = abs_add (pos t.weight *ℤ g t) (Σ∈ ts (λ t. pos t.weight *ℤ g t)) in
@@ -157,8 +150,8 @@ taps_abs (t ∷ ts) g E h =
 
 -- at a done cell
 pub error_at_done : (p : Page) (e : ℕ → ℤ) (n r c : ℕ) → r < p.height → c < p.width → number p r c < n → error_at p e n (pos r) (pos c) ≡ e (number p r c)
-unfolding error_at valued
-error_at_done p e n r c h l d = rw (cell_at_in p r c h l, lt-ltb (number p r c) n d)
+unfolding error_at valued cell_at
+error_at_done p e n r c h l d = grind arith
 
 pub pending_abs : (p : Page) (K : Shape) (s : Trace) (n m E : ℕ) → 1 ≤ p.width → m < cells p → ((j : ℕ) → j < n → nat_abs (s.error j) ≤ E) → nat_abs (pending p K s n m) ≤ weights K.taps * E
 pending_abs p K s n m E w l small =

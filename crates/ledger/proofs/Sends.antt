@@ -2,13 +2,14 @@
 use Rattle.std.proofs.Common.{◌≡◌, ℕ, zero, suc, ◌+◌, ◌*◌, ◌<◌, ◌≤◌, Bool, true, false, List, [], ◌∷◌, length, get_or, take, ℤ, pos, ◌+ℤ◌, ◌*ℤ◌, nat_abs, Option, refl, ⊎_elim, mul-le-mul_right, mul-le-mul_left, arith}
 use borrow.Author.Differences.{ints}
 use Rattle.std.proofs.lemmas.Bool.{cases_lt}
+use Rattle.std.proofs.lemmas.Int.{unsigned_abs-mul}
 use Rattle.std.proofs.lemmas.List.Sums.{sum_by-take-le, sum_by-cons}
 use Rattle.kernel.specs.declared.tap.Tap.{Tap}
 use Rattle.kernel.specs.Rules.{Shape, weights}
 use Rattle.ledger.specs.Sums.{Σ∈, given}
 use Rattle.ledger.specs.Page.{Page, cells, row, aimed, hits}
 use Rattle.ledger.specs.Ledger.{Trace, sent, shares, pending}
-use Rattle.ledger.proofs.Ring.{abs_add, abs_pos_mul}
+use Rattle.ledger.proofs.Ring.{abs_add}
 use Rattle.ledger.proofs.Sums.{given_abs, ΣZero}
 use Rattle.ledger.proofs.Page.{aimed_out, aims_later}
 use Rattle.ledger.proofs.Kernels.{EachAhead, EachReaches}
@@ -72,7 +73,7 @@ sent_abs p [] test j e = omega arith
 sent_abs p (t ∷ ts) test j e =
     let more = sent_abs p ts test j e in
     let both = abs_add (given (test (aimed p t j)) (pos t.weight *ℤ e)) (Σ∈ ts (λ t. given (test (aimed p t j)) (pos t.weight *ℤ e))) in
-    let one = given_abs (test (aimed p t j)) (pos t.weight *ℤ e) (t.weight * nat_abs e) (omega (arith, abs_pos_mul t.weight e)) in
+    let one = given_abs (test (aimed p t j)) (pos t.weight *ℤ e) (t.weight * nat_abs e) (omega (arith, unsigned_abs-mul (pos t.weight) e)) in
     rw (sum_by-cons (λ (t : Tap). t.weight) t ts) (omega arith)
 
 -- by the first i taps

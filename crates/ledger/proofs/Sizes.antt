@@ -24,7 +24,7 @@ byte_in : (z : ℤ) → Between (pos 0) (pos 255) z → nat_abs z ≤ 255
 byte_in z b = omega (arith, ints, b.0, b.1)
 
 cut_in : (v : ℤ) → nat_abs v ≤ 765 → nat_abs (v -ℤ limited v) ≤ 1275
-cut_in v h = let b = limited_between v in omega (arith, ints, b.0, b.1)
+cut_in v h = grind (arith, ints)
 
 module _ (p : Page) (K : Shape) (s : Trace) (n : ℕ) (w : 1 ≤ p.width) (k : Sound K) (far : n ≤ 2 ^ 23) (done : Diffused p K s n)
     (samples : (j : ℕ) → j < n → Between (pos 0) (pos 255) (s.sample j)) (tones : (j : ℕ) → j < n → Between (pos 0) (pos 255) (s.tone j)) where

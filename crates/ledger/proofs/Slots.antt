@@ -2,6 +2,7 @@
 use Rattle.std.proofs.Common.{◌≡◌, ℕ, ◌+◌, ◌*◌, ◌<◌, ◌≤◌, not, eqb, ◌≢◌, List, length, get_or, set, ℤ, pos, ◌+ℤ◌, sym, refl, ap, ◌∙◌, ap₂, ⊎_elim, arith, get_or-set_other, get_or-set_same}
 use borrow.Author.Differences.{ints}
 use Rattle.std.proofs.lemmas.Bool.{cases_eq, eq-eqb, ne_eqb}
+use Rattle.std.proofs.lemmas.Grind.{common_steps}
 use Rattle.ledger.specs.Sums.{given}
 use Rattle.ledger.specs.Page.{Page, row, column, number}
 use Rattle.ledger.specs.Memory.{kept_rows, kept_columns, slot}
@@ -20,26 +21,10 @@ module _ (p : Page) (xs : List ℤ) (long : length xs ≡ kept_rows * kept_colum
   apart q = slots_same R r s c d l m h i (omega arith) (omega arith) q
 
   cells_apart : number p r c ≡ number p s d → (r ≡ s) × (c ≡ d)
-  cells_apart q = (sym (row_number p r c k) ∙ ap (row p) q ∙ row_number p s d j, sym (column_number p r c k) ∙ ap (column p) q ∙ column_number p s d j)
+  cells_apart q = grind (arith, row_number p r c k, row_number p s d j, column_number p r c k, column_number p s d j)
 
   pub added : (z : ℤ) → get_or (set xs (slot s d) (get_or xs (slot s d) (pos 0) +ℤ z)) (slot r c) (pos 0) ≡ get_or xs (slot r c) (pos 0) +ℤ given (eqb (number p s d) (number p r c)) z
-  added z = ⊎_elim
-      (λ e.
-      let f = cells_apart e in
-      let lt : slot s d < length xs = omega (arith, slot_below s d (omega arith)) in
-      rw (f.0, f.1, eq-eqb (number p s d) (number p s d) refl) (get_or-set_same xs (slot s d) _ (pos 0) lt))
-      (λ n.
-      let o : slot r c ≢ slot s d = λ q. let f = apart q in n (ap₂ (number p) f.0 f.1) in
-      rw (ne_eqb (number p s d) (number p r c) (λ q. n (sym q)), get_or-set_other xs (slot s d) (slot r c) _ (pos 0) o) (omega (arith, ints)))
-      (cases_eq (number p r c) (number p s d))
+  added z = let lt : slot s d < length xs = omega (arith, slot_below s d (omega arith)) in grind (arith, ints, common_steps, apart, cells_apart)
 
   pub cleared : get_or (set xs (slot s d) (pos 0)) (slot r c) (pos 0) ≡ given (not (eqb (number p r c) (number p s d))) (get_or xs (slot r c) (pos 0))
-  cleared = ⊎_elim
-      (λ e.
-      let f = cells_apart e in
-      let lt : slot s d < length xs = omega (arith, slot_below s d (omega arith)) in
-      rw (f.0, f.1, eq-eqb (number p s d) (number p s d) refl) (get_or-set_same xs (slot s d) (pos 0) (pos 0) lt))
-      (λ n.
-      let o : slot r c ≢ slot s d = λ q. let f = apart q in n (ap₂ (number p) f.0 f.1) in
-      rw (ne_eqb (number p r c) (number p s d) n, get_or-set_other xs (slot s d) (slot r c) (pos 0) (pos 0) o))
-      (cases_eq (number p r c) (number p s d))
+  cleared = let lt : slot s d < length xs = omega (arith, slot_below s d (omega arith)) in grind (arith, ints, common_steps, apart, cells_apart)

@@ -1,9 +1,9 @@
 -- From cell to cell: a memory that holds the run so far, changed as one cell changes it, holds the run with that cell.
-use Rattle.std.proofs.Common.{◌≡◌, ℕ, suc, ◌+◌, ◌*◌, ◌/◌, ◌%◌, ◌<◌, ◌≤◌, not, eqb, leb, ◌⊎◌, get_or, ℤ, pos, ◌+ℤ◌, ◌-ℤ◌, ◌*ℤ◌, sym, refl, ap, ◌∙◌, ap₂, inl, inr, ⊎_elim, mul-le-mul_right, arith}
+use Rattle.std.proofs.Common.{◌≡◌, ℕ, suc, ◌+◌, ◌*◌, ◌/◌, ◌%◌, ◌<◌, ◌≤◌, not, eqb, leb, ◌⊎◌, get_or, ℤ, pos, ◌+ℤ◌, ◌-ℤ◌, ◌*ℤ◌, sym, refl, ap, ◌∙◌, ap₂, ⊎_elim, arith}
 use lib.Signed.{quot_z}
 use borrow.Author.Differences.{ints}
-use Rattle.std.proofs.lemmas.Bool.{cases_eq, cases_lt, eq-eqb, ne_eqb, le-leb, lt-leb}
-use Rattle.std.proofs.lemmas.Nat.{mod_below, div-add-mod', div-mul-add}
+use Rattle.std.proofs.lemmas.Bool.{cases_eq, cases_lt, eq-eqb, ne_eqb}
+use Rattle.std.proofs.lemmas.Nat.{mod_below, div-add-mod', rows}
 use Rattle.kernel.specs.Rules.{Shape, weights}
 use Rattle.ledger.specs.Sums.{Σ<, given}
 use Rattle.ledger.specs.Page.{Page, row, column, number, hits, waits, off}
@@ -19,36 +19,18 @@ use Rattle.ledger.proofs.Sends.{none_back, far_pending}
 -- ---- rows
 -- the next cell is in the same row, or is the first of the next
 pub row_next : (w k : ℕ) → 1 ≤ w → ((suc k / w ≡ k / w) × (suc (k % w) < w)) ⊎ ((suc k / w ≡ suc (k / w)) × (suc (k % w) ≡ w) × (suc k ≡ suc (k / w) * w))
-row_next w k h =
-    let e = div-add-mod' k w in
-    let l = mod_below k w h in
-    ⊎_elim
-    (λ i. inl (ap (λ n. n / w) (same k (k / w * w) (k % w) e) ∙ div-mul-add (k / w) w (suc (k % w)) i, i))
-    (λ i. let z : suc k ≡ suc (k / w) * w = omega arith in
-    inr (ap (λ n. n / w) (z ∙ none (suc (k / w) * w)) ∙ div-mul-add (suc (k / w)) w 0 h, omega arith, z))
-    (cases_lt (suc (k % w)) w)
-  where
-    same : (k a b : ℕ) → a + b ≡ k → suc k ≡ a + suc b
-    same k a b e = omega arith
-
-    none : (a : ℕ) → a ≡ a + 0
-    none a = omega arith
+row_next w k h = grind (arith, rows, div-add-mod' k w, mod_below k w, div-add-mod' (suc k) w, mod_below (suc k) w)
 
 pub row_mono : (w j k : ℕ) → 1 ≤ w → j ≤ k → j / w ≤ k / w
-row_mono w j k h l =
-    let a = div-add-mod' j w in
-    let b = div-add-mod' k w in
-    let c = mod_below j w h in
-    let d = mod_below k w h in
-    ⊎_elim (λ i. let m = mul-le-mul_right w i in absurd (omega arith)) (λ i. i) (cases_lt (k / w) (j / w))
+row_mono w j k h l = grind (arith, rows, div-add-mod' j w, div-add-mod' k w, mod_below j w h, mod_below k w h)
 
 awaits_ahead : (p : Page) (K : Shape) (s : Trace) (n m : ℕ) → n ≤ m → awaits p K s n m ≡ pending p K s n m
 unfolding awaits
-awaits_ahead p K s n m l = rw (le-leb n m l)
+awaits_ahead p K s n m l = grind arith
 
 awaits_done : (p : Page) (K : Shape) (s : Trace) (n m : ℕ) → m < n → awaits p K s n m ≡ pos 0
 unfolding awaits
-awaits_done p K s n m l = rw (lt-leb n m l)
+awaits_done p K s n m l = grind arith
 
 -- ---- traces with the same first n cells
 abbrev pub Same : Trace → Trace → ℕ → Type 0

@@ -71,15 +71,10 @@ pub ΣOne : (n : ℕ) (b : ℕ → Bool) (f : ℕ → ℤ) (i : ℕ) → i < n �
     early m z false y ne = omega (arith, ints)
 
 pub given_abs : (b : Bool) (z : ℤ) (B : ℕ) → nat_abs z ≤ B → nat_abs (given b z) ≤ B
-given_abs true z B h = h
-given_abs false z B h = omega arith
+given_abs b z B h = grind (arith, ints)
 
 pub ΣNone : (n : ℕ) (b : ℕ → Bool) (f : ℕ → ℤ) → ((k : ℕ) → k < n → b k ≡ true → ⊥) → Σ< n (λ k. given (b k) (f k)) ≡ pos 0
-ΣNone n b f h = ΣZero n (λ k. given (b k) (f k)) (λ k m. go k m (b k) refl)
-  where
-    go : (k : ℕ) → k < n → (v : Bool) → b k ≡ v → given v (f k) ≡ pos 0
-    go k m true y = absurd (h k m y)
-    go k m false y = refl
+ΣNone n b f h = ΣZero n (λ k. given (b k) (f k)) (λ k m. let no = h k m in grind arith)
 
 pub ΣTelescope : (n : ℕ) (f : ℕ → ℤ) → Σ< n (λ k. f (suc k) -ℤ f k) ≡ f n -ℤ f 0
 ΣTelescope zero f = omega (arith, ints)

@@ -4,7 +4,7 @@ ghost use Rattle.ledger.specs.Orders.{runs_back};
 
 // Rows are done from the top. Raster order runs every row left to right;
 // serpentine order runs the odd rows right to left.
-#[derive(Clone, Copy)]
+#[derive(Clone, Copy, PartialEq, Eq, Debug)]
 pub enum Order {
     Raster,
     Serpentine,
