@@ -32,16 +32,9 @@ pub enum Stopped {
 impl fmt::Display for Stopped {
     fn fmt<W: fmt::Write>(&self, f: &mut fmt::Formatter<W>) -> fmt::Result {
         match self {
-            Stopped::NoPage(fault) => {
-                let number = fault.number();
-                let byte = fault.byte();
-                write!(f, "no page: fault {number} at byte {byte}")
-            }
+            Stopped::NoPage(fault) => write!(f, "no page: fault {fault}"),
             Stopped::NoSheet => write!(f, "no sheet of that size"),
-            Stopped::Unwritten(fault) => {
-                let number = fault.number();
-                write!(f, "not written: fault {number}")
-            }
+            Stopped::Unwritten(fault) => write!(f, "not written: {fault}"),
             Stopped::NoMemory => write!(f, "no memory"),
         }
     }

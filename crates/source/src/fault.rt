@@ -1,5 +1,5 @@
 // Why a source has no tone at a place.
-ghost use Rattle.std.specs.Prelude.{◌≡◌, ◌&&◌, nat_lt, cond, Ok, Err};
+ghost use Rattle.std.specs.Prelude.{◌≡◌, ◌++◌, ◌&&◌, codes, cond, decimal, nat_lt, Some, Ok, Err};
 ghost use Rattle.source.specs.declared.fault.Fault.TheVariants.{Outside};
 ghost use Rattle.source.specs.Faults.{told};
 
@@ -56,7 +56,11 @@ impl Fault {
     }
 }
 
+// The fault's number and spot.
 impl fmt::Display for Fault {
+    ghost output = { λ e. Some (decimal (told e).number ++ codes ", layer " ++ decimal (told e).spot.layer ++ codes ", row "
+        ++ decimal (told e).spot.row ++ codes ", column " ++ decimal (told e).spot.column) };
+
     fn fmt<W: fmt::Write>(&self, f: &mut fmt::Formatter<W>) -> fmt::Result {
         let number = self.number();
         let Spot { layer, row, column } = self.spot();
