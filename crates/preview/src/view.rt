@@ -1,4 +1,6 @@
 // What is seen of a page.
+ghost use Rattle.std.specs.Prelude.{◌++◌, Some, codes, decimal, string_bytes};
+
 use source::Fault;
 use std::fmt;
 
@@ -14,6 +16,8 @@ pub struct View {
 
 // The size, and the picture below it.
 impl fmt::Display for View {
+    ghost output = { λ v. Some (decimal v.width ++ codes " wide, " ++ decimal v.height ++ codes " high\n" ++ string_bytes v.picture) };
+
     fn fmt<W: fmt::Write>(&self, f: &mut fmt::Formatter<W>) -> fmt::Result {
         let width = self.width;
         let height = self.height;
