@@ -30,22 +30,26 @@ module _ (p : PackingMeaning) (laws : PackingLaws p) where
     abbrev row : ℕ → ℕ
     row k = p.row_byte w f (k / p.stride w) (k % p.stride w)
 
-    rows_long : length (map row (range_with_len 0 (p.stride w * h))) ≡ p.stride w * h
+    abbrev rows : List ℕ
+    rows = map row (range_with_len 0 (p.stride w * h))
+
+    rows_long : length rows ≡ p.stride w * h
     rows_long = length-map-range_with_len row 0 (p.stride w * h)
 
     pub past_of : drop (p.stride w * h) xs ≡ past
-    past_of = ap (λ t. drop (p.stride w * h) t) e ∙ drop_at (map row (range_with_len 0 (p.stride w * h))) past (p.stride w * h) rows_long
+    past_of = rw e (drop_at rows past (p.stride w * h) rows_long)
 
     -- the byte of a place
     pub byte_at : (i j : ℕ) → i < h → j < w → get_or xs (i * p.stride w + p.byte_of j) 0 ≡ p.row_byte w f i (p.byte_of j)
     byte_at i j q l =
+        let at : ℕ = i * p.stride w + p.byte_of j in
         let m : p.byte_of j < p.stride w = laws.inside w j l in
-        let n : i * p.stride w + p.byte_of j < p.stride w * h = mul-add-lt i (p.stride w) (p.byte_of j) h q m in
-        ap (λ t. get_or t (i * p.stride w + p.byte_of j) 0) e
-        ∙ (get_or_append_left (map row (range_with_len 0 (p.stride w * h))) past 0 (i * p.stride w + p.byte_of j) (omega (arith, rows_long))
-        ∙ (get_or-map-range_with_len row 0 (p.stride w * h) (i * p.stride w + p.byte_of j) (i * p.stride w + p.byte_of j) 0 n (omega arith)
-        ∙ (ap (λ x. p.row_byte w f x ((i * p.stride w + p.byte_of j) % p.stride w)) (div-mul-add i (p.stride w) (p.byte_of j) m)
-        ∙ ap (λ x. p.row_byte w f i x) (mod-mul-add i (p.stride w) (p.byte_of j) m))))
+        let n : at < p.stride w * h = mul-add-lt i (p.stride w) (p.byte_of j) h q m in
+        let there : p.row_byte w f (at / p.stride w) (at % p.stride w) ≡ p.row_byte w f i (p.byte_of j) =
+        rw (div-mul-add i (p.stride w) (p.byte_of j) m, mod-mul-add i (p.stride w) (p.byte_of j) m) refl in
+        ap (λ t. get_or t at 0) e
+        ∙ (get_or_append_left rows past 0 at (omega (arith, rows_long))
+        ∙ (get_or-map-range_with_len row 0 (p.stride w * h) at at 0 n (omega arith) ∙ there))
 
     -- the inks of the rows, where they are below the limit
     pub inks_of : (i j : ℕ) → i < h → j < w → f i j < p.limit → lent_ink p xs w i j ≡ f i j
@@ -61,30 +65,24 @@ module _ (p : PackingMeaning) (laws : PackingLaws p) where
     pub relaid : (r c number v : ℕ) → r < h → c < w → v ≡ p.row_byte w (put f r c number) r (p.byte_of c)
         → set xs (r * p.stride w + p.byte_of c) v ≡ lent_memory p w h (put f r c number) past
     relaid r c number v q l new =
+        let g : ℕ → ℕ → ℕ = put f r c number in
         let at : ℕ = r * p.stride w + p.byte_of c in
-        let n : at < p.stride w * h = mul-add-lt r (p.stride w) (p.byte_of c) h q (laws.inside w c l) in
-        let rows : List ℕ = map row (range_with_len 0 (p.stride w * h)) in
+        let b : p.byte_of c < p.stride w = laws.inside w c l in
+        let n : at < length rows = rw rows_long (mul-add-lt r (p.stride w) (p.byte_of c) h q b) in
         ap (λ t. set t at v) e
-        ∙ (set-append_left rows past at v (omega (arith, rows_long))
+        ∙ (set-append_left rows past at v n
         ∙ ap (λ t. t ++ past)
-        (fill_by_all (λ k. p.row_byte w (put f r c number) (k / p.stride w) (k % p.stride w)) (set rows at v) (p.stride w * h) 0
-        (length-set rows at v ∙ rows_long)
+        (fill_by_all (λ k. p.row_byte w g (k / p.stride w) (k % p.stride w)) (set rows at v) (p.stride w * h) 0 (length-set rows at v ∙ rows_long)
         (λ k m.
         ⊎_elim
-        (λ same.
-        ap (λ x. get_or (set rows at v) x 0) same
-        ∙ (get_or-set_same rows at v 0 (omega (arith, rows_long))
-        ∙ (new
-        ∙ (ap (λ x. p.row_byte w (put f r c number) x (p.byte_of c)) (sym (div-mul-add r (p.stride w) (p.byte_of c) (laws.inside w c l)))
-        ∙ (ap (λ x. p.row_byte w (put f r c number) (at / p.stride w) x) (sym (mod-mul-add r (p.stride w) (p.byte_of c) (laws.inside w c l)))
-        ∙ ap (λ x. p.row_byte w (put f r c number) (x / p.stride w) (x % p.stride w)) (sym same))))))
-        (λ other.
+        (λ (here : k ≡ at).
+        rw (here, get_or-set_same rows at v 0 n, div-mul-add r (p.stride w) (p.byte_of c) b, mod-mul-add r (p.stride w) (p.byte_of c) b) new)
+        (λ (other : k ≡ at → ⊥).
         get_or-set_other rows at k v 0 other
         ∙ (get_or-map-range_with_len row 0 (p.stride w * h) k k 0 m (omega arith)
-        ∙ laws.local w f (put f r c number) (k / p.stride w) (k % p.stride w) (column_of k (p.stride w) h m)
+        ∙ laws.local w f g (k / p.stride w) (k % p.stride w) (column_of k (p.stride w) h m)
         (λ d _ in_byte. sym (put_other f r c number (k / p.stride w) d
-        (λ here. other (sym (div-add-mod' k (p.stride w))
-        ∙ (ap (λ x. x * p.stride w + k % p.stride w) here.0 ∙ ap (λ x. r * p.stride w + x) (sym in_byte ∙ ap p.byte_of here.1))))))))
+        (λ place. let i = place.0 in let j = place.1 in let whole = div-add-mod' k (p.stride w) in other cc)))))
         (cases_eq k at))))
 
   -- what is left of a sheet's memory where the byte of a place is written anew for another ink

@@ -1,5 +1,5 @@
 -- Asking for a place of a sheet and laying an ink number there: which calls are refused, and what changes.
-use Rattle.std.specs.Prelude.{◌≡◌, ℕ, ◌<◌, Bool, cond, ◌&&◌, Ok, Err, Result, ◌==◌, nat_lt}
+use Rattle.std.specs.Prelude.{◌≡◌, ℕ, ◌<◌, Bool, cond, ◌&&◌, List, codes, Ok, Err, Result, ◌==◌, nat_lt}
 use Rattle.sheet.specs.declared.fault.SheetFault.{SheetFault}
 use Rattle.sheet.specs.declared.fault.SheetFault.TheVariants.{OffSheet, OverLimit}
 use Rattle.sheet.specs.Meaning.{SheetMeaning}
@@ -8,6 +8,11 @@ use Rattle.sheet.specs.Meaning.{SheetMeaning}
 abbrev pub fault_number : SheetFault → ℕ
 fault_number OffSheet = 9
 fault_number OverLimit = 10
+
+-- the text of a refusal
+abbrev pub fault_text : SheetFault → List ℕ
+fault_text OffSheet = codes "refusal 9: the place is not on the sheet"
+fault_text OverLimit = codes "refusal 10: the ink number is the sheet's limit or more"
 
 -- an answer, with the refusal by its number
 abbrev pub numbered : {X : Type 0} → Result X SheetFault → Result X ℕ

@@ -4,20 +4,20 @@ use Rattle.std.specs.Prelude.{◌≡◌, ℕ, ◌<◌, ◌≤◌}
 pub record PackingMeaning : Type 0 where
   -- ink numbers are below this
   pub limit : ℕ
-  -- the bytes of a row of some width
-  pub stride : ℕ → ℕ
+  -- the bytes of a row
+  pub stride : (width : ℕ) → ℕ
   -- the byte of its row that a column stands in
-  pub byte_of : ℕ → ℕ
+  pub byte_of : (column : ℕ) → ℕ
   -- the ink that a byte holds for a column
-  pub ink_in : ℕ → ℕ → ℕ
-  -- byte j of a row of some width, by the inks of the sheet
-  pub row_byte : ℕ → (ℕ → ℕ → ℕ) → ℕ → ℕ → ℕ
+  pub ink_in : (byte column : ℕ) → ℕ
+  -- byte j of a row, by the inks of the sheet
+  pub row_byte : (width : ℕ) (ink : ℕ → ℕ → ℕ) (row j : ℕ) → ℕ
 
 -- what every packing keeps
 pub record PackingLaws (p : PackingMeaning) : Type 0 where
   pub some : 1 ≤ p.limit
   pub few : p.limit ≤ 256
-  -- a row has no more bytes than columns, and a byte for each column
+  -- a row has no more bytes than columns, and one of them for each column
   pub short : (width : ℕ) → p.stride width ≤ width
   pub inside : (width column : ℕ) → column < width → p.byte_of column < p.stride width
   -- a byte of a row holds the inks of its columns

@@ -46,10 +46,8 @@ impl Packing for Bits {
     }
 
     fn blank_byte(width: u16, j: usize) -> u8 {
-        if j < width as usize / 8 {
-            return 0b1111_1111;
-        }
-        match width % 8 {
+        match (width as usize).saturating_sub(j.saturating_mul(8)) {
+            0 => 0,
             1 => 0b1000_0000,
             2 => 0b1100_0000,
             3 => 0b1110_0000,
@@ -57,7 +55,7 @@ impl Packing for Bits {
             5 => 0b1111_1000,
             6 => 0b1111_1100,
             7 => 0b1111_1110,
-            _ => 0,
+            _ => 0b1111_1111,
         }
     }
 }

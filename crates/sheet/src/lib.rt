@@ -1,7 +1,7 @@
 // Sheets: what the inks of a page are laid on.
 //
-// `Sheet` is the interface that jobs and the page writer are written against. `ByteSheet` keeps one byte for
-// each place, `BitSheet` one bit, both in memory that the caller lends.
+// `Sheet` is the interface that jobs and the page writer are written against. `LentSheet` keeps its inks in memory that
+// the caller lends, packed in bytes as a `Packing` says: one byte for each place, or one bit.
 #![tactic(auto)]
 
 pub mod bits;
@@ -25,8 +25,10 @@ pub use marks::{mark, mark_lent};
 pub use packings::Packing;
 pub use sheets::Sheet;
 
+// one byte for each place: cell (r, c) is byte r * width + c
 pub type ByteSheet<'a> = LentSheet<'a, Bytes>;
 
+// one bit for each place, in rows as PBM has them
 pub type BitSheet<'a> = LentSheet<'a, Bits>;
 
 #[cfg(test)]

@@ -26,13 +26,13 @@ pub trait Packing {
 
     // A byte of a row with another ink for one of its columns.
     fn with_ink(byte: u8, column: usize, number: u8) -> u8
-        ensures { (width : ℕ) (ink : ℕ → ℕ → ℕ) (row : ℕ) → column < width → number < meaning.limit
+        ensures { (width : ℕ) (ink : ℕ → ℕ → ℕ) (row : ℕ) → column < width
             → byte ≡ meaning.row_byte width ink row (meaning.byte_of column)
             → result ≡ meaning.row_byte width (put ink row column number) row (meaning.byte_of column) };
 
     // Byte j of a row of ink 0.
     fn blank_byte(width: u16, j: usize) -> u8
-        ensures { (row : ℕ) → j < meaning.stride width → result ≡ meaning.row_byte width blank row j };
+        ensures { (row : ℕ) → result ≡ meaning.row_byte width blank row j };
 
     ghost laws: { PackingLaws meaning };
 }

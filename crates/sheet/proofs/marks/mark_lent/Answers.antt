@@ -12,14 +12,13 @@ returns g c =
     let w = c.args.width in
     let h = c.args.height in
     let m = c.args.memory.now in
+    let f = marked_below p.limit blank c.args.row c.args.column in
     let s = c.new-sheet.result in
     let t = c.mark.new.sheet in
     let new = c.new-sheet.ensures.means in
-    let end : t.memory.now ≡ cond (fits w h (p.stride w * h) (length m))
-    (lent_memory p w h (marked_below p.limit blank c.args.row c.args.column) (drop (p.stride w * h) m)) m =
-    sized p laws (fits w h (p.stride w * h) (length m)) w h s.width s.height (marked_below p.limit blank c.args.row c.args.column) t.memory.now m
-    new.as_wide new.as_high
-    (ended p laws s.memory.now t.memory.now m s.width s.height t.width t.height c.args.row c.args.column
-    c.mark.ensures.inks.width c.mark.ensures.inks.height c.new-sheet.ensures.memory t.packed c.mark.ensures.keeps.1 c.mark.ensures.inks.inks) in
+    let marked = c.mark.ensures.inks in
+    let end : t.memory.now ≡ cond (fits w h (p.stride w * h) (length m)) (lent_memory p w h f (drop (p.stride w * h) m)) m =
+    sized p laws (fits w h (p.stride w * h) (length m)) w h s.width s.height f t.memory.now m new.as_wide new.as_high
+    (ended p laws _ _ m _ _ _ _ _ _ marked.width marked.height c.new-sheet.ensures.memory t.packed c.mark.ensures.keeps.1 marked.inks) in
     let names : s.memory.ghost_name ≡ t.memory.ghost_name = cc in
     search rules

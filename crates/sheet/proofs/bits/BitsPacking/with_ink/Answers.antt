@@ -22,7 +22,7 @@ relaid w r c n b v f l e small here others =
     (cases_eq k (c % 8)))
 
 pub returns-then-number-eq0 : goal.returns-then-number-eq0
-returns-then-number-eq0 c = λ w f r l _ e.
+returns-then-number-eq0 c = λ w f r l e.
     let b = c.args.byte in
     let k = 7 - c.args.column % 8 in
     relaid w r c.args.column c.args.number b _ f l e (or_of_8 b (1 * 2 ^ k % 256) (omega arith) (omega arith))
@@ -30,7 +30,7 @@ returns-then-number-eq0 c = λ w f r l _ e.
     (λ i m other. bit_at_set_other w8 b k (omega arith) (7 - i) (λ x. other (omega arith)))
 
 pub returns-else-number-eq0 : goal.returns-else-number-eq0
-returns-else-number-eq0 c = λ w f r l _ e.
+returns-else-number-eq0 c = λ w f r l e.
     let b = c.args.byte in
     let k = 7 - c.args.column % 8 in
     relaid w r c.args.column c.args.number b _ f l e (omega (arith, and_le_l b (255 - 1 * 2 ^ k % 256)))

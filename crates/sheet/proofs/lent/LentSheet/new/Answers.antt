@@ -2,29 +2,23 @@ use Rattle.std.proofs.Common.{◌≡◌, ◌*◌, ◌++◌, true, length, drop, 
 use Rattle.sheet.specs.Limits.{fits}
 use Rattle.sheet.specs.Memory.{blank, lent_memory}
 use Rattle.sheet.proofs.Packed.{inks_of, whole}
+use Rattle.sheet.proofs.lent.LentSheet.new.Given.{Over}
 use Rattle.sheet.proofs.lent.LentSheet.new.Goals as goal
+use Rattle.sheet.proofs.lent.LentSheet.new.Goals.{After-blank_rows}
+
+-- the memory, with its rows blank
+blanked : (g : Over) (c : After-blank_rows g) → let p = g.P.Packing.meaning in
+    c.blank_rows.new.rows ++ drop (c.stride.result * c.args.height) c.args.memory.now
+    ≡ lent_memory p c.args.width c.args.height blank (drop (p.stride c.args.width * c.args.height) c.args.memory.now)
+blanked g c = search rules
 
 pub invariant_of-result-2-clause-below : goal.invariant_of-result-2-clause-below
-invariant_of-result-2-clause-below g c =
-    let p = g.P.Packing.meaning in
-    let laws = g.met.P.Packing.laws in
-    let w = c.args.width in
-    let h = c.args.height in
-    let past = drop (p.stride w * h) c.args.memory.now in
-    let xs = c.blank_rows.new.rows ++ drop (c.stride.result * h) c.args.memory.now in
-    let e : xs ≡ lent_memory p w h blank past = search rules in
-    λ i j q l. rw (inks_of p laws xs w h blank past e i j q l laws.some) laws.some
+invariant_of-result-2-clause-below g c = λ i j q l. let laws = g.met.P.Packing.laws in
+    rw (inks_of g.P.Packing.meaning laws _ _ _ _ _ (blanked g (goal.at.invariant_of-result-2-clause-below g c).After-blank_rows) i j q l laws.some) laws.some
 
 pub invariant_of-result-2-clause-packed : goal.invariant_of-result-2-clause-packed
-invariant_of-result-2-clause-packed g c =
-    let p = g.P.Packing.meaning in
-    let laws = g.met.P.Packing.laws in
-    let w = c.args.width in
-    let h = c.args.height in
-    let past = drop (p.stride w * h) c.args.memory.now in
-    let xs = c.blank_rows.new.rows ++ drop (c.stride.result * h) c.args.memory.now in
-    let e : xs ≡ lent_memory p w h blank past = search rules in
-    whole p laws xs w h blank past e (λ i j q l. laws.some)
+invariant_of-result-2-clause-packed g c = let laws = g.met.P.Packing.laws in
+    whole g.P.Packing.meaning laws _ _ _ _ _ (blanked g (goal.at.invariant_of-result-2-clause-packed g c).After-blank_rows) (λ i j q l. laws.some)
 
 pub returns-clause-means : goal.returns-clause-means
 returns-clause-means g c =
@@ -32,14 +26,11 @@ returns-clause-means g c =
     let laws = g.met.P.Packing.laws in
     let w = c.args.width in
     let h = c.args.height in
-    let m = c.args.memory.now in
-    let xs = c.blank_rows.new.rows ++ drop (c.stride.result * h) m in
-    let e : xs ≡ lent_memory p w h blank (drop (p.stride w * h) m) = search rules in
-    let can : fits w h (p.stride w * h) (length m) ≡ true = rw (sym c.stride.ensures) (sym c.can_be_made.ensures ∙ c.if-not-can_be_made.false) in
-    rw can
-    record {
+    let can : fits w h (p.stride w * h) (length c.args.memory.now) ≡ true =
+    rw (sym c.stride.ensures) (sym c.can_be_made.ensures ∙ c.if-not-can_be_made.false) in
+    rw can (record {
       as_wide = refl;
       as_high = refl;
       as_limit = refl;
-      inks = λ i j q l. inks_of p laws xs w h blank (drop (p.stride w * h) m) e i j q l laws.some;
-    }
+      inks = λ i j q l. inks_of p laws _ _ _ _ _ (blanked g (goal.at.returns-clause-means g c).After-blank_rows) i j q l laws.some;
+    })

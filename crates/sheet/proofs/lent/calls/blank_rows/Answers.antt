@@ -1,7 +1,6 @@
-use Rattle.std.proofs.Common.{◌≡◌, ℕ, ◌/◌, ◌%◌, ◌<◌, arith}
+use Rattle.std.proofs.Common.{◌≡◌, ℕ, ◌/◌, ◌%◌, arith}
 use Rattle.std.proofs.lemmas.List.Edits.{fill_by_more}
 use Rattle.std.proofs.lemmas.List.FromFn.{fill_by_all}
-use Rattle.std.proofs.lemmas.Nat.{mod_below}
 use Rattle.sheet.specs.Memory.{blank}
 use Rattle.sheet.specs.Packing.{PackingMeaning}
 use Rattle.sheet.proofs.lent.calls.blank_rows.Goals as goal
@@ -17,9 +16,7 @@ loop-k-preserved g c =
     let p = g.P.Packing.meaning in
     let w = c.args.width in
     let k = c.loop-k.k in
-    let some : 0 < p.stride w = omega (arith, g.met.P.Packing.laws.inside w 0 c.requires) in
-    let new : c.blank_byte.result ≡ blank_at p w k =
-    rw c.stride-stride.ensures at c.blank_byte.ensures (k / p.stride w) (mod_below k (p.stride w) some) in
+    let new : c.blank_byte.result ≡ blank_at p w k = rw c.stride-stride.ensures at c.blank_byte.ensures (k / p.stride w) in
     rw new (fill_by_more (blank_at p w) c.loop-k.rows k 0 (omega arith) c.loop-k.invariant)
 
 pub returns : goal.returns

@@ -1,21 +1,18 @@
 use Rattle.std.proofs.Common.{set, refl, length-set, arith}
-use Rattle.sheet.specs.Memory.{lent_ink}
 use Rattle.sheet.proofs.Packed.{Relaid, laid_anew}
 use Rattle.sheet.proofs.lent.calls.LentSheetSheet.lay.Given.{Over}
 use Rattle.sheet.proofs.lent.calls.LentSheetSheet.lay.Goals as goal
 use Rattle.sheet.proofs.lent.calls.LentSheetSheet.lay.Goals.{After-with_ink}
 
 -- the memory, the byte of the place being written
-laid : (g : Over) (c : After-with_ink g) → Relaid g.P.Packing.meaning g.met.P.Packing.laws c.args.self.now.memory.now
-    (set c.args.self.now.memory.now c.in_ok-at.at c.with_ink.result) c.args.self.now.width c.args.self.now.height
+laid : (g : Over) (c : After-with_ink g) → let s = c.args.self.now in
+    Relaid g.P.Packing.meaning g.met.P.Packing.laws s.memory.now (set s.memory.now c.in_ok-at.at c.with_ink.result) s.width s.height
     c.args.row c.args.column c.args.number
 laid g c =
     let s = c.args.self.now in
-    let p = g.P.Packing.meaning in
     let place = c.in_ok-at.ensures.place in
-    laid_anew p g.met.P.Packing.laws s.memory.now s.width s.height c.args.row c.args.column c.args.number
-    c.in_ok-at.at c.with_ink.result place.0 place.1 (omega (arith, c.limit.ensures)) place.2 s.below s.packed
-    (c.with_ink.ensures s.width (lent_ink p s.memory.now s.width) c.args.row place.1 (omega (arith, c.limit.ensures)))
+    laid_anew g.P.Packing.meaning g.met.P.Packing.laws s.memory.now s.width s.height c.args.row c.args.column c.args.number
+    c.in_ok-at.at c.with_ink.result place.0 place.1 (omega (arith, c.limit.ensures)) place.2 s.below s.packed (c.with_ink.ensures _ _ _ place.1)
 
 pub invariant_of-self-clause-room : goal.invariant_of-self-clause-room
 invariant_of-self-clause-room g c = rw (length-set c.args.self.now.memory.now c.in_ok-at.at c.with_ink.result) c.args.self.now.room
