@@ -2,7 +2,7 @@
 use Rattle.std.specs.Prelude.{◌≡◌, ℕ, ◌+◌, ◌*◌, ◌<◌, List, map, take, pos}
 use Rattle.ink.specs.Inks.{Inks}
 use Rattle.ink.specs.Values.{values}
-use Rattle.sheet.specs.Meaning.{SheetMeaning}
+use Rattle.sheet.specs.Meaning.{SheetBounds, SheetMeaning}
 use Rattle.source.specs.Pages.{Page, Place, tone, missing}
 use Rattle.tone.specs.Channels.{channels_of}
 use Rattle.writer.specs.Pages.{written}
@@ -22,11 +22,13 @@ module _ {T : Type 0} (n : ℕ) (value : T → ℕ → ℕ) (m : Inks T) where
   -- the bytes are the page written from a sheet on which all places are printed
   pub record PrintedPage (letter : ℕ) (p : Page T) (bytes : List ℕ) : Type 0 where
     pub sheet : SheetMeaning
+    pub bounds : SheetBounds sheet
     pub all : Printed p sheet (p.width * p.height)
     pub page : bytes ≡ written n value m sheet letter
 
   -- the first k bytes of a buffer are that page
   pub record PrintedInto (letter : ℕ) (p : Page T) (buffer : List ℕ) (k : ℕ) : Type 0 where
     pub sheet : SheetMeaning
+    pub bounds : SheetBounds sheet
     pub all : Printed p sheet (p.width * p.height)
     pub page : take k buffer ≡ written n value m sheet letter

@@ -8,8 +8,11 @@ pub record SheetMeaning : Type 0 where
   pub limit : ℕ
   -- the number at a row and a column; what it is off the sheet means nothing
   pub ink : ℕ → ℕ → ℕ
-  pub wide : width ≤ 65535
-  pub high : height ≤ 65535
-  pub some : 1 ≤ limit
-  pub few : limit ≤ 256
-  pub below : (row column : ℕ) → row < height → column < width → ink row column < limit
+
+-- the bounds of every sheet
+pub record SheetBounds (m : SheetMeaning) : Type 0 where
+  pub wide : m.width ≤ 65535
+  pub high : m.height ≤ 65535
+  pub some : 1 ≤ m.limit
+  pub few : m.limit ≤ 256
+  pub below : (row column : ℕ) → row < m.height → column < m.width → m.ink row column < m.limit

@@ -1,8 +1,6 @@
 -- How the inks of a sheet lie in memory.
-use Rattle.std.specs.Prelude.{ℕ, ◌+◌, ◌-◌, ◌*◌, ◌/◌, ◌%◌, ◌^◌, ◌<◌, ◌≤◌, cond, ◌&&◌, List, ◌++◌, map, ◌==◌, nat_lt, slice_index}
-use Rattle.std.proofs.Common.{arith}
+use Rattle.std.specs.Prelude.{ℕ, ◌+◌, ◌-◌, ◌*◌, ◌/◌, ◌%◌, ◌^◌, cond, ◌&&◌, List, ◌++◌, map, ◌==◌, nat_lt, slice_index}
 use Rattle.std.specs.List.{range_with_len}
-use Rattle.sheet.specs.Limits.{max_width, max_height}
 use Rattle.sheet.specs.Meaning.{SheetMeaning}
 
 -- ink 0 everywhere
@@ -21,19 +19,8 @@ abbrev pub byte_ink : List ℕ → ℕ → ℕ → ℕ → ℕ
 byte_ink memory width row column = slice_index memory (row * width + column)
 
 -- what a byte sheet means, by its memory and its size
-abbrev pub byte_meaning : (memory : List ℕ) (width height : ℕ) → width ≤ max_width → height ≤ max_height
-    → ((row column : ℕ) → row < height → column < width → byte_ink memory width row column < 256) → SheetMeaning
-byte_meaning memory width height w h below = record {
-  width = width;
-  height = height;
-  limit = 256;
-  ink = byte_ink memory width;
-  wide = omega arith;
-  high = omega arith;
-  some = omega arith;
-  few = omega arith;
-  below = below;
-}
+abbrev pub byte_meaning : List ℕ → ℕ → ℕ → SheetMeaning
+byte_meaning memory width height = record { width = width; height = height; limit = 256; ink = byte_ink memory width }
 
 -- Bits: rows as PBM has them, highest bit first, each row filled to a whole byte with zero bits. Ink 0 is bit 1, black.
 
@@ -67,15 +54,5 @@ abbrev pub bit_ink : List ℕ → ℕ → ℕ → ℕ → ℕ
 bit_ink memory width row column = 1 - bit (slice_index memory (row * stride width + column / 8)) (column % 8)
 
 -- what a bit sheet means, by its memory and its size
-abbrev pub bit_meaning : (memory : List ℕ) (width height : ℕ) → width ≤ max_width → height ≤ max_height → SheetMeaning
-bit_meaning memory width height w h = record {
-  width = width;
-  height = height;
-  limit = 2;
-  ink = bit_ink memory width;
-  wide = omega arith;
-  high = omega arith;
-  some = omega arith;
-  few = omega arith;
-  below = λ row column p q. omega arith;
-}
+abbrev pub bit_meaning : List ℕ → ℕ → ℕ → SheetMeaning
+bit_meaning memory width height = record { width = width; height = height; limit = 2; ink = bit_ink memory width }

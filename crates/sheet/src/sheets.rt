@@ -2,7 +2,7 @@
 ghost use Rattle.std.specs.Borrow.{GName};
 ghost use Rattle.std.specs.Prelude.{◌≡◌, ℕ, List};
 ghost use Rattle.sheet.specs.Laying.{After, asking, laying, numbered};
-ghost use Rattle.sheet.specs.Meaning.{SheetMeaning};
+ghost use Rattle.sheet.specs.Meaning.{SheetBounds, SheetMeaning};
 
 use crate::fault::SheetFault;
 
@@ -34,4 +34,6 @@ pub trait Sheet {
         ensures after { After meaning self.old self.new row column number result }
         ensures keeps { (lent self.new ≡ lent self.old)
             × (besides self.new ≡ besides self.old) };
+
+    ghost bounds: { (sheet : Self) → SheetBounds (meaning sheet) };
 }

@@ -10,7 +10,7 @@ use Rattle.ink.specs.Inks.{Inks, ink_tone}
 use Rattle.netpbm.specs.Plain.{plain_header}
 use Rattle.netpbm.specs.Rasters.{raster_place, sample_at}
 use Rattle.page_laws.proofs.Plain.{plain_page}
-use Rattle.sheet.specs.Meaning.{SheetMeaning}
+use Rattle.sheet.specs.Meaning.{SheetBounds, SheetMeaning}
 use Rattle.source.specs.Pages.{tone}
 use Rattle.tone.specs.Channels.{channels_of}
 use Rattle.writer.specs.Back.{ReadsBack, Back}
@@ -87,9 +87,9 @@ module _ {T : Type 0} (letter n : ℕ) (value : T → ℕ → ℕ) (made : List 
   read_place : (r c : ℕ) → r < s.height → c < s.width → raster_place n made (tone_raster n value m s ++ past) 0 s.width r c ≡ tone (built r c)
   read_place r c p q = rw (le-leb (sample_at n 0 s.width r c + n) (length (tone_raster n value m s ++ past)) (place_fits r c p q)) refl
 
-  pub reads_back : 1 ≤ s.width → 1 ≤ s.height → ReadsBack letter n value made m s (tone_page n value m s letter ++ past)
-  reads_back wide high =
-      let law = plain_page letter n made s.width s.height (tone_raster n value m s ++ past) wide s.wide high s.high in
+  pub reads_back : SheetBounds s → 1 ≤ s.width → 1 ≤ s.height → ReadsBack letter n value made m s (tone_page n value m s letter ++ past)
+  reads_back bounds wide high =
+      let law = plain_page letter n made s.width s.height (tone_raster n value m s ++ past) wide bounds.wide high bounds.high in
       let head = plain_header letter s.width s.height in
       let whole : tone_page n value m s letter ++ past ≡ head ++ (tone_raster n value m s ++ past) = append_assoc head (tone_raster n value m s) past in
       subst (λ (bs : List ℕ). ReadsBack letter n value made m s bs) (sym whole)
@@ -104,12 +104,12 @@ wrote_ok page before after k w =
     ⊎_elim (λ fits. w.buffer ∙ rw fits refl) (λ short. let bad : Ok k ≡ Err 19 = w.answer ∙ rw short refl in cc) (cases_Bool (leb (length page) (length before)))
 
 -- a page of tones that was written reads back from the buffer
-pub back_after : {T : Type 0} (letter n : ℕ) (value : T → ℕ → ℕ) (made : List ℕ → T) (m : Inks T) (s : SheetMeaning) →
+pub back_after : {T : Type 0} (letter n : ℕ) (value : T → ℕ → ℕ) (made : List ℕ → T) (m : Inks T) (s : SheetMeaning) → SheetBounds s →
     1 ≤ n → n ≤ 3 → ((t : T) (i : ℕ) → i < n → value t i ≤ 255) →
     ((v : List ℕ) (i : ℕ) → i < n → get_or v i 0 ≤ 255 → value (made v) i ≡ get_or v i 0) →
     (before after : List ℕ) (r : Result ℕ ℕ) → Wrote (tone_page n value m s letter) before after r → Back letter n value made m s after r
-back_after letter n value made m s some few byte gives before after (Err k) w = tt
-back_after letter n value made m s some few byte gives before after (Ok k) w = λ no wide high.
+back_after letter n value made m s bounds some few byte gives before after (Err k) w = tt
+back_after letter n value made m s bounds some few byte gives before after (Ok k) w = λ no wide high.
     let page = tone_page n value m s letter in
     subst (λ (bs : List ℕ). ReadsBack letter n value made m s bs) (sym (wrote_ok page before after k w))
-    (reads_back letter n value made m s (drop (length page) before) some few byte gives wide high)
+    (reads_back letter n value made m s (drop (length page) before) some few byte gives bounds wide high)

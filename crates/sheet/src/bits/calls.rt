@@ -1,5 +1,6 @@
 // The calls of a bit sheet.
 ghost use Rattle.std.specs.Prelude.{◌≡◌, ℕ, ◌*◌, ◌<◌, List, [], ◌∷◌, length, drop, if◌then◌else◌};
+ghost use Rattle.std.proofs.Common.{rules};
 ghost use Rattle.sheet.specs.Laying.{Blank};
 ghost use Rattle.sheet.specs.Limits.{fits};
 ghost use Rattle.sheet.specs.Memory.{blank, bit_ink, bit_meaning, bit_memory, stride};
@@ -14,7 +15,7 @@ impl<'a> BitSheet<'a> {
     // A sheet of ink 0. Where the size is outside the limits or the memory too short, the sheet is 0 by 0.
     // Bytes past the sheet keep what they hold.
     pub fn new(memory: &'a mut [u8], width: u16, height: u16) -> BitSheet<'a>
-        ensures means { Blank (bit_meaning result.rows.now result.width result.height result.wide result.high)
+        ensures means { Blank (bit_meaning result.rows.now result.width result.height)
             (if fits width height (stride width * height) (length memory.old) then width else 0)
             (if fits width height (stride width * height) (length memory.old) then height else 0) 2 }
         ensures memory { result.rows.now ≡ bit_memory result.width result.height blank (drop (stride result.width * result.height) memory.old) }
@@ -47,11 +48,13 @@ impl<'a> BitSheet<'a> {
 }
 
 impl Sheet for BitSheet<'_> {
-    ghost meaning = { λ s. bit_meaning s.rows.now s.width s.height s.wide s.high };
+    ghost meaning = { λ s. bit_meaning s.rows.now s.width s.height };
 
     ghost lent = { λ s. s.rows.ghost_name ∷ [] };
 
     ghost besides = { λ s. drop (stride s.width * s.height) s.rows.now };
+
+    ghost bounds = { Prim.search rules };
 
     fn width(&self) -> u16 {
         self.width

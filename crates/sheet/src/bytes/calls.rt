@@ -1,5 +1,6 @@
 // The calls of a byte sheet.
 ghost use Rattle.std.specs.Prelude.{◌≡◌, ℕ, ◌+◌, ◌*◌, ◌<◌, ◌≤◌, List, [], ◌∷◌, ◌++◌, length, drop, replicate, if◌then◌else◌};
+ghost use Rattle.std.proofs.Common.{rules};
 ghost use Rattle.sheet.specs.Laying.{Blank};
 ghost use Rattle.sheet.specs.Limits.{fits};
 ghost use Rattle.sheet.specs.Memory.{blank, byte_ink, byte_meaning, byte_memory};
@@ -23,7 +24,7 @@ impl<'a> ByteSheet<'a> {
     // A sheet of ink 0. Where the size is outside the limits or the memory too short, the sheet is 0 by 0.
     // Bytes past the sheet keep what they hold.
     pub fn new(memory: &'a mut [u8], width: u16, height: u16) -> ByteSheet<'a>
-        ensures means { Blank (byte_meaning result.cells.now result.width result.height result.wide result.high result.below)
+        ensures means { Blank (byte_meaning result.cells.now result.width result.height)
             (if fits width height (width * height) (length memory.old) then width else 0)
             (if fits width height (width * height) (length memory.old) then height else 0) 256 }
         ensures memory { result.cells.now ≡ byte_memory result.width result.height blank (drop (result.width * result.height) memory.old) }
@@ -56,11 +57,13 @@ impl<'a> ByteSheet<'a> {
 }
 
 impl Sheet for ByteSheet<'_> {
-    ghost meaning = { λ s. byte_meaning s.cells.now s.width s.height s.wide s.high s.below };
+    ghost meaning = { λ s. byte_meaning s.cells.now s.width s.height };
 
     ghost lent = { λ s. s.cells.ghost_name ∷ [] };
 
     ghost besides = { λ s. drop (s.width * s.height) s.cells.now };
+
+    ghost bounds = { Prim.search rules };
 
     fn width(&self) -> u16 {
         self.width
