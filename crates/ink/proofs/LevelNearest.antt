@@ -1,12 +1,13 @@
 -- Each channel's nearest level makes the nearest ink.
-use Rattle.std.proofs.Common.{◌≡◌, ℕ, ◌+◌, ◌-◌, ◌*◌, ◌/◌, ◌%◌, ◌<◌, ◌≤◌, min, true, List, get_or, ℤ, pos, negsuc, ◌-ℤ◌, nat_abs, sym, ap, ◌∙◌, ⊎_elim, mul-le-mul_right, mul_comm, add-mul, arith}
+use Rattle.std.proofs.Common.{◌≡◌, ℕ, zero, suc, ◌+◌, ◌-◌, ◌*◌, ◌/◌, ◌%◌, ◌^◌, ◌<◌, ◌≤◌, min, List, get_or, ℤ, pos, negsuc, ◌-ℤ◌, nat_abs, sym, ap, ◌∙◌, ⊎_elim, inl, inr, ◌⊎◌, refl, mul-le-mul_right, add-mul, arith}
+use Rattle.std.proofs.Math.Nat.{div-div-eq-div-mul, div-eq_of_lt, div-one, one-le-pow, pow-suc, pow-succ', pow-zero}
 use Rattle.std.proofs.lemmas.Nat.{div-add-mod', div_below, mod_below}
 use Rattle.std.proofs.lemmas.Bool.{cases_eq, cases_lt}
 use Rattle.ink.specs.Inks.{Inks}
-use Rattle.ink.specs.LevelFacts.{EvenSteps, Steps, blue_of, colour_facts, green_of, grey_facts, level_below, level_high, level_last, level_low, level_tone, level_zero, red_of}
-use Rattle.ink.specs.LevelRules.{colour_choice, colour_steps, gap_of, grey_choice, grey_steps, level}
-use Rattle.ink.specs.Levels.{colour_levels, grey_levels}
-use Rattle.ink.specs.Nearness.{Nearest, ink_distance, squared}
+use Rattle.ink.specs.LevelFacts.{EvenSteps, Kind, Steps, choice_below, even, level_high, level_in_ink, level_last, level_low, level_tone, level_zero, value_at}
+use Rattle.ink.specs.LevelRules.{gap_of, ink_of, level, level_in, level_values, levels_choice}
+use Rattle.ink.specs.Levels.{levels}
+use Rattle.ink.specs.Nearness.{Nearest, distance, ink_distance, squared}
 use Rattle.ink.proofs.Apart.{abs_neg, abs_pos, squared_lt}
 
 -- a number less by one is less by a gap, counted in gaps
@@ -18,7 +19,7 @@ gaps i k gap l =
 
 module _ (n gap : ℕ) (ok : EvenSteps n gap) where
   -- the tone of a level is a byte, and only the last is 255
-  tone_below : (i : ℕ) → i < n → i * gap ≤ 255
+  pub tone_below : (i : ℕ) → i < n → i * gap ≤ 255
   tone_below i p =
       let m : i * gap ≤ (n - 1) * gap = mul-le-mul_right gap (omega arith) in
       omega (arith, ok.whole)
@@ -72,20 +73,6 @@ module _ (n gap : ℕ) (ok : EvenSteps n gap) where
       (λ m. let g = gaps k i gap (omega arith) in omega arith)
       (cases_lt i k)
 
-  -- the same of tones, and their squared differences
-  farther_tone : (v : ℤ) (i : ℕ) → i < n → (i ≡ level gap v → ⊥)
-      → squared (v -ℤ pos (min (level gap v * gap) 255)) < squared (v -ℤ pos (min (i * gap) 255))
-  farther_tone v i p ne =
-      let a : min (level gap v * gap) 255 ≡ level gap v * gap = omega (arith, level_tone n gap ok v) in
-      let b : min (i * gap) 255 ≡ i * gap = omega (arith, tone_below i p) in
-      rw (a, b) (squared_lt (v -ℤ pos (level gap v * gap)) (v -ℤ pos (i * gap)) (farther v i p ne))
-
-  no_nearer_tone : (v : ℤ) (i : ℕ) → i < n
-      → squared (v -ℤ pos (min (level gap v * gap) 255)) ≤ squared (v -ℤ pos (min (i * gap) 255))
-  no_nearer_tone v i p =
-      ⊎_elim (λ e. omega (arith, ap (λ k. squared (v -ℤ pos (min (k * gap) 255))) e))
-      (λ ne. omega (arith, farther_tone v i p ne)) (cases_eq i (level gap v))
-
 -- an ink that every other is farther than
 alone : {T : Type 0} (m : Inks T) (u : List ℤ) (k : ℕ) → k < m.number
     → ((j : ℕ) → j < m.number → (j ≡ k → ⊥) → ink_distance m u k < ink_distance m u j) → Nearest m u k
@@ -95,55 +82,93 @@ alone m u k p lt = record {
   first = λ j l. lt j (omega arith) (λ e. omega arith);
 }
 
-pub grey_nearest : (n : ℕ) (ok : grey_steps n ≡ true) (u : List ℤ) → Nearest (grey_levels n ok) u (grey_choice n u)
-grey_nearest n ok u =
-    alone (grey_levels n ok) u (grey_choice n u) ((grey_levels n ok).below u)
-    (λ j p ne. omega (arith, farther_tone n (gap_of n) (grey_facts n ok).even (get_or u 0 (pos 0)) j p ne))
+-- the levels of an ink make its number
+module _ (n c k : ℕ) (two : 2 ≤ n) (p : k < n ^ c) where
+  pub level_in_below : (i : ℕ) → i < c → level_in n c k i < n
+  level_in_below zero q =
+      let e : suc (c - 1) ≡ c = omega arith in
+      let some : 0 < n ^ (c - 1) = one-le-pow (c - 1) n (omega arith) in
+      div_below k (n ^ (c - 1)) n some (rw (← pow-succ' n (c - 1), e) p)
+  level_in_below (suc i) q = mod_below (k / n ^ (c - 1 - suc i)) n (omega arith)
 
-module _ (n : ℕ) (s : Steps n) (u : List ℤ) where
-  -- the squared difference of channel i at level k, and the chosen level
-  abbrev part : ℕ → ℕ → ℕ
-  part i k = squared (get_or u i (pos 0) -ℤ pos (min (k * gap_of n) 255))
+  front : (j : ℕ) → j ≤ c → ink_of n (level_in n c k) j ≡ k / n ^ (c - j)
+  front zero q =
+      let e : c - 0 ≡ c = omega arith in
+      sym (ap (λ x. k / n ^ x) e ∙ div-eq_of_lt p)
+  front (suc zero) q = omega arith
+  front (suc (suc j)) q =
+      let m = c - 1 - suc j in
+      let e : c - suc j ≡ suc m = omega arith in
+      let f : m ≡ c - suc (suc j) = omega arith in
+      ap (λ x. x * n + k / n ^ m % n)
+      (front (suc j) (omega arith) ∙ (ap (λ x. k / n ^ x) e ∙ (ap (λ x. k / x) (pow-suc n m) ∙ sym (div-div-eq-div-mul k (n ^ m) n))))
+      ∙ (div-add-mod' (k / n ^ m) n ∙ ap (λ x. k / n ^ x) f)
 
+  pub number_of_levels : ink_of n (level_in n c k) c ≡ k
+  number_of_levels =
+      let e : c - c ≡ 0 = omega arith in
+      front c (omega arith) ∙ (ap (λ x. k / n ^ x) e ∙ (ap (λ x. k / x) (pow-zero n) ∙ div-one k))
+
+same_ink : (n : ℕ) (f g : ℕ → ℕ) (c : ℕ) → ((i : ℕ) → i < c → f i ≡ g i) → ink_of n f c ≡ ink_of n g c
+same_ink n f g zero e = refl
+same_ink n f g (suc c) e = ap (λ x. x * n + f c) (same_ink n f g c (λ i p. e i (omega arith))) ∙ ap (λ x. ink_of n g c * n + x) (e c (omega arith))
+
+module _ {T : Type 0} (count : ℕ) (value : T → ℕ → ℕ) (made : List ℕ → T) (kind : Kind count value made) (n : ℕ) (s : Steps count n)
+    (u : List ℤ) (j : ℕ) (p : j < n ^ count) where
   abbrev at : ℕ → ℕ
   at i = level (gap_of n) (get_or u i (pos 0))
 
-  more : (i k : ℕ) → k < n → (k ≡ at i → ⊥) → part i (at i) < part i k
-  more i k p ne = farther_tone n (gap_of n) s.even (get_or u i (pos 0)) k p ne
+  abbrev chosen : T
+  chosen = made (level_values n count (levels_choice n count u))
 
-  least : (i k : ℕ) → k < n → part i (at i) ≤ part i k
-  least i k p = no_nearer_tone n (gap_of n) s.even (get_or u i (pos 0)) k p
+  abbrev other : T
+  other = made (level_values n count j)
 
-  -- an ink whose three levels are not all the chosen ones is farther
-  sums : (r g b : ℕ) → r < n → g < n → b < n → ((r ≡ at 0) × ((g ≡ at 1) × (b ≡ at 2)) → ⊥)
-      → part 0 (at 0) + part 1 (at 1) + part 2 (at 2) < part 0 r + part 1 g + part 2 b
-  sums r g b p q o ne =
+  value_chosen : (i : ℕ) → i < count → value chosen i ≡ at i * gap_of n
+  value_chosen i q =
+      value_at count value made kind n s (levels_choice n count u) i (at i) q (level_in_ink n at (choice_below count value made kind n s u) count i q)
+      (level_tone n (gap_of n) (even s) (get_or u i (pos 0)))
+
+  value_other : (i : ℕ) → i < count → value other i ≡ level_in n count j i * gap_of n
+  value_other i q =
+      value_at count value made kind n s j i (level_in n count j i) q refl
+      (tone_below n (gap_of n) (even s) (level_in n count j i) (level_in_below n count j s.two p i q))
+
+  -- where the other ink has another level, it is farther
+  channel : (i : ℕ) → i < count → (level_in n count j i ≡ at i → ⊥)
+      → squared (get_or u i (pos 0) -ℤ pos (value chosen i)) < squared (get_or u i (pos 0) -ℤ pos (value other i))
+  channel i q ne =
+      rw (value_chosen i q, value_other i q)
+      (squared_lt (get_or u i (pos 0) -ℤ pos (at i * gap_of n)) (get_or u i (pos 0) -ℤ pos (level_in n count j i * gap_of n))
+      (farther n (gap_of n) (even s) (get_or u i (pos 0)) (level_in n count j i) (level_in_below n count j s.two p i q) ne))
+
+  -- over the first i channels the other ink is no nearer, and farther unless it has the chosen levels there
+  summed : (i : ℕ) → i ≤ count
+      → (distance i value u chosen ≤ distance i value u other)
+      × (((h : ℕ) → h < i → level_in n count j h ≡ at h) ⊎ (distance i value u chosen < distance i value u other))
+  summed zero q = (omega arith, inl (λ h l. absurd (omega arith)))
+  summed (suc i) q =
+      let before = summed i (omega arith) in
       ⊎_elim
-      (λ e. ⊎_elim
-      (λ f. ⊎_elim (λ h. absurd (ne (e, (f, h)))) (λ h. omega (arith, least 0 r p, least 1 g q, more 2 b o h)) (cases_eq b (at 2)))
-      (λ f. omega (arith, least 0 r p, more 1 g q f, least 2 b o)) (cases_eq g (at 1)))
-      (λ e. omega (arith, more 0 r p e, least 1 g q, least 2 b o)) (cases_eq r (at 0))
+      (λ e.
+      let same : value chosen i ≡ value other i = value_chosen i q ∙ (ap (λ x. x * gap_of n) (sym e) ∙ sym (value_other i q)) in
+      let as_far = ap (λ y. squared (get_or u i (pos 0) -ℤ pos y)) same in (
+        omega (arith, before.0, as_far),
+        ⊎_elim
+            (λ all. inl (λ h l. ⊎_elim (λ z. rw z e) (λ nz. all h (omega arith)) (cases_eq h i)))
+            (λ lt. inr (omega (arith, as_far))) before.1,
+      ))
+      (λ ne. let far = channel i q ne in (omega (arith, before.0), inr (omega (arith, before.0))))
+      (cases_eq (level_in n count j i) (at i))
 
-pub colour_nearest : (n : ℕ) (ok : colour_steps n ≡ true) (u : List ℤ) → Nearest (colour_levels n ok) u (colour_choice n u)
-colour_nearest n ok u =
-    let s = colour_facts n ok in
-    let at : ℕ → ℕ = λ i. level (gap_of n) (get_or u i (pos 0)) in
-    let below : (i : ℕ) → at i < n = λ i. level_below n (gap_of n) s.even (get_or u i (pos 0)) in
-    let red = red_of n (at 0) (at 1) (at 2) (below 1) (below 2) in
-    let green = green_of n (at 0) (at 1) (at 2) (below 1) (below 2) in
-    let blue = blue_of n (at 0) (at 1) (at 2) (below 1) (below 2) in
-    alone (colour_levels n ok) u (colour_choice n u) ((colour_levels n ok).below u)
-    (λ j p ne.
-    let some : 0 < n = omega (arith, s.even.two) in
-    let high : j / n < n * n = div_below j n (n * n) some (omega (arith, mul_comm n (n * n))) in
-    let d = sums n s u (j / n / n) (j / n % n) (j % n) (div_below (j / n) n n some high) (mod_below (j / n) n some) (mod_below j n some)
-    (λ e. ne (
-    sym (div-add-mod' j n)
-    ∙ (ap (λ x. x * n + j % n) (sym (div-add-mod' (j / n) n))
-    ∙ (ap (λ x. (x * n + j / n % n) * n + j % n) e.0
-    ∙ (ap (λ x. (at 0 * n + x) * n + j % n) e.1.0
-    ∙ ap (λ x. (at 0 * n + at 1) * n + x) e.1.1))))) in
-    let dr : part n s u 0 (colour_choice n u / n / n) ≡ part n s u 0 (at 0) = ap (λ x. part n s u 0 x) red in
-    let dg : part n s u 1 (colour_choice n u / n % n) ≡ part n s u 1 (at 1) = ap (λ x. part n s u 1 x) green in
-    let db : part n s u 2 (colour_choice n u % n) ≡ part n s u 2 (at 2) = ap (λ x. part n s u 2 x) blue in
-    omega arith)
+  pub farther_ink : (j ≡ levels_choice n count u → ⊥) → distance count value u chosen < distance count value u other
+  farther_ink ne =
+      ⊎_elim
+      (λ all. absurd (ne (sym (number_of_levels n count j s.two p) ∙ same_ink n (level_in n count j) at count all)))
+      (λ lt. lt) (summed count (omega arith)).1
+
+pub levels_nearest : {T : Type 0} (count : ℕ) (value : T → ℕ → ℕ) (made : List ℕ → T) (kind : Kind count value made) (n : ℕ) (s : Steps count n)
+    (u : List ℤ) → Nearest (levels count value made kind n s) u (levels_choice n count u)
+levels_nearest count value made kind n s u =
+    alone (levels count value made kind n s) u (levels_choice n count u) ((levels count value made kind n s).below u)
+    (λ j p ne. farther_ink count value made kind n s u j p ne)

@@ -1,9 +1,8 @@
 -- Limited values.
-use Rattle.std.proofs.Common.{◌≡◌, ℕ, ◌+◌, ◌/◌, ◌<◌, min, ltb, List, [], ◌∷◌, map, length, get_or, take, ℤ, pos, negsuc, ◌≤ℤ◌, sym, refl, ap, ◌∙◌, arith}
+use Rattle.std.proofs.Common.{◌≡◌, ℕ, zero, suc, ◌+◌, ◌/◌, ◌<◌, min, ltb, List, [], ◌∷◌, map, length, get_or, take, ℤ, pos, negsuc, ◌≤ℤ◌, sym, refl, ap, ◌∙◌, arith}
 use Rattle.std.proofs.lemmas.List.{ext_get_or, get_or-map, get_or-take, length-map, length-take}
 use Rattle.std.proofs.lemmas.Int.{ints}
 use Rattle.std.proofs.lemmas.Bool.{cond_both, ltb-false, ltb-true}
-use Rattle.ink.specs.LevelFacts.{each_channel}
 use Rattle.ink.specs.LevelRules.{cut_to_byte, level}
 use Rattle.ink.specs.Values.{Limited, highest, limited, lowest, values}
 
@@ -43,6 +42,13 @@ all_limited ws l i p =
 pub same_values : (count : ℕ) (ws : List ℤ) (i : ℕ) → i < count → i < length ws
     → get_or (map limited ws) i (pos 0) ≡ get_or (values count ws) i (pos 0)
 same_values count ws i p q = get_or-map limited ws i (pos 0) (pos 0) q ∙ sym (values_at count ws i p q)
+
+-- what holds at the three channels
+each_channel : (P : ℕ → Type 0) → P 0 → P 1 → P 2 → (i : ℕ) → i < 3 → P i
+each_channel P a b c zero p = a
+each_channel P a b c (suc zero) p = b
+each_channel P a b c (suc (suc zero)) p = c
+each_channel P a b c (suc (suc (suc i))) p = absurd (omega arith)
 
 pub three : (ws : List ℤ) (x y z : ℤ) → length ws ≡ 3
     → x ≡ limited (get_or ws 0 (pos 0)) → y ≡ limited (get_or ws 1 (pos 0)) → z ≡ limited (get_or ws 2 (pos 0))

@@ -1,18 +1,49 @@
--- Facts on levels that the meanings of the two sets carry: the nearest level is a level, and it is within half a gap.
-use Rattle.std.specs.Prelude.{◌≡◌, ℕ, zero, suc, ◌+◌, ◌-◌, ◌*◌, ◌/◌, ◌%◌, ◌<◌, ◌≤◌, min, Bool, true, ◌&&◌, leb, List, [], ◌∷◌, get_or, ℤ, pos, negsuc, ◌+ℤ◌, neg_ℤ, ◌≤ℤ◌, Some, Option, ◌==◌, nat_le, slice_index_or, refl}
-use Rattle.std.proofs.Common.{⊎_elim, ap, ◌∙◌, add-mul, mul-le-mul_right, zero-mul, arith}
-use Rattle.std.proofs.lemmas.Nat.{div-add-mod', div_below, div-mul-add, le-div, mod_below, mod-mul-add}
+-- Facts on levels that the meaning of a set carries: each ink has its levels, and the nearest level is within half a gap.
+use Rattle.std.specs.Prelude.{◌≡◌, ℕ, zero, suc, ◌+◌, ◌-◌, ◌*◌, ◌/◌, ◌%◌, ◌^◌, ◌<◌, ◌≤◌, min, Bool, true, ◌&&◌, List, [], ◌∷◌, ℤ, pos, negsuc, ◌+ℤ◌, neg_ℤ, ◌≤ℤ◌, Some, Option, ◌==◌, nat_le, slice_index, slice_index_or, refl}
+use Rattle.std.proofs.Common.{⊎_elim, sym, ap, ◌∙◌, add-mul, mul-le-mul_right, zero-mul, mul_assoc, arith}
+use Rattle.std.proofs.Math.Nat.{div-div-eq-div-mul, div-one, pow-succ', pow-zero, suc-add, zero-add}
+use Rattle.std.proofs.lemmas.Nat.{div-add-mod', div_below, div-mul-add, le-div, mod_below, mod-mul-add, mul-add-lt}
 use Rattle.std.proofs.lemmas.Int.{ints}
-use Rattle.std.proofs.lemmas.Bool.{and_parts, cases_lt, eqb-true, leb-true, or_cases}
-use Rattle.tone.specs.Kinds.{colour_value, grey_value}
+use Rattle.std.proofs.lemmas.Bool.{and_parts, cases_eq, cases_lt, cond-true, eqb-true, leb-true, lt-ltb, or_cases}
+use Rattle.tone.specs.Channels.{channels_of}
 use Rattle.ink.specs.Inks.{Around, Within}
-use Rattle.ink.specs.LevelRules.{among, colour_choice, colour_level, colour_steps, cut_to_byte, gap_of, grey_choice, grey_level, grey_steps, level}
+use Rattle.ink.specs.LevelRules.{among, colour_steps, cut_to_byte, gap_of, grey_steps, ink_of, level, level_in, level_values, levels_choice}
+
+-- What is asked of a kind of tone: three channels at most, and a tone has the channel values that it is made of.
+pub record Kind {T : Type 0} (count : ℕ) (value : T → ℕ → ℕ) (made : List ℕ → T) : Type 0 where
+  pub few : count ≤ 3
+  pub gives : (v : List ℕ) (i : ℕ) → i < count → slice_index v i ≤ 255 → value (made v) i ≡ slice_index v i
+
+-- What is asked of a number of steps: 256 inks at most, and equal gaps from 0 to 255.
+pub record Steps (count n : ℕ) : Type 0 where
+  pub two : 2 ≤ n
+  pub few : n ^ count ≤ 256
+  pub whole : (n - 1) * gap_of n ≡ 255
 
 -- n levels divide 0..255 into equal gaps, and each gap is odd, so that no value is half way between two levels
 pub record EvenSteps (n gap : ℕ) : Type 0 where
   pub two : 2 ≤ n
   pub whole : (n - 1) * gap ≡ 255
   pub odd : gap ≡ 2 * (gap / 2) + 1
+
+-- what divides 255 is odd
+odd_gap : (m gap : ℕ) → m * gap ≡ 255 → gap ≡ 2 * (gap / 2) + 1
+odd_gap m gap e =
+    ⊎_elim
+    (λ z.
+    let half : gap ≡ gap / 2 * 2 = omega (arith, div-add-mod' gap 2) in
+    let twice : m * gap ≡ m * (gap / 2) * 2 = ap (λ x. m * x) half ∙ sym (mul_assoc m (gap / 2) 2) in
+    absurd (omega arith))
+    (λ ne. omega (arith, div-add-mod' gap 2, mod_below gap 2 (omega arith)))
+    (cases_eq (gap % 2) 0)
+
+pub even : {count n : ℕ} → Steps count n → EvenSteps n (gap_of n)
+even {count} {n} s = record { two = s.two; whole = s.whole; odd = odd_gap (n - 1) (gap_of n) s.whole }
+
+pub gap_small : {count n : ℕ} → Steps count n → gap_of n ≤ 255
+gap_small {count} {n} s =
+    let one : 1 ≤ n - 1 = omega (arith, s.two) in
+    omega (arith, mul-le-mul_right (gap_of n) one, s.whole)
 
 module _ (n gap : ℕ) (ok : EvenSteps n gap) where
   -- n gaps are one more than 255 needs
@@ -74,6 +105,58 @@ module _ (n gap : ℕ) (ok : EvenSteps n gap) where
       let zero-level : (0 + gap / 2) / gap * gap ≡ 0 = level_zero in
       (omega (arith, ints), omega (arith, ints))
 
+-- An ink has the levels that its number is made of.
+module _ (n : ℕ) (at : ℕ → ℕ) (below : (i : ℕ) → at i < n) where
+  pub ink_below : (c : ℕ) → ink_of n at c < n ^ c
+  ink_below zero = rw (pow-zero n) (omega arith)
+  ink_below (suc c) = rw (pow-succ' n c) (mul-add-lt (ink_of n at c) n (at c) (n ^ c) (ink_below c) (below c))
+
+  -- the number without its last j digits
+  ink_high : (c j : ℕ) → ink_of n at (j + c) / n ^ j ≡ ink_of n at c
+  ink_high c zero = rw (zero-add c, pow-zero n) (div-one (ink_of n at c))
+  ink_high c (suc j) =
+      rw (suc-add j c)
+      (ap (λ x. (ink_of n at (j + c) * n + at (j + c)) / x) (pow-succ' n j)
+      ∙ (sym (div-div-eq-div-mul (ink_of n at (j + c) * n + at (j + c)) n (n ^ j))
+      ∙ (ap (λ x. x / n ^ j) (div-mul-add (ink_of n at (j + c)) n (at (j + c)) (below (j + c))) ∙ ink_high c j)))
+
+  ink_from : (c i j : ℕ) → j + suc i ≡ c → ink_of n at c / n ^ j ≡ ink_of n at i * n + at i
+  ink_from c i j e = rw (sym e) (ink_high (suc i) j)
+
+  pub level_in_ink : (c i : ℕ) → i < c → level_in n c (ink_of n at c) i ≡ at i
+  level_in_ink c zero p = ink_from c 0 (c - 1) (omega arith) ∙ omega arith
+  level_in_ink c (suc i) p =
+      ap (λ x. x % n) (ink_from c (suc i) (c - 1 - suc i) (omega arith)) ∙ mod-mul-add (ink_of n at (suc i)) n (at (suc i)) (below (suc i))
+
+pub channels_at : (c : ℕ) (f : ℕ → ℕ) (i : ℕ) → i < c → c ≤ 3 → slice_index (channels_of c f) i ≡ f i
+channels_at c f zero p q = cond-true _ (f 0) 0 (lt-ltb 0 c p)
+channels_at c f (suc zero) p q = cond-true _ (f 1) 0 (lt-ltb 1 c p)
+channels_at c f (suc (suc zero)) p q = cond-true _ (f 2) 0 (lt-ltb 2 c p)
+channels_at c f (suc (suc (suc i))) p q = absurd (omega arith)
+
+module _ {T : Type 0} (count : ℕ) (value : T → ℕ → ℕ) (made : List ℕ → T) (kind : Kind count value made) (n : ℕ) (s : Steps count n) where
+  -- the value of a channel, where the ink has the level x there
+  pub value_at : (k i x : ℕ) → i < count → level_in n count k i ≡ x → x * gap_of n ≤ 255 → value (made (level_values n count k)) i ≡ x * gap_of n
+  value_at k i x p e small =
+      let v : slice_index (level_values n count k) i ≡ x * gap_of n =
+      channels_at count (λ i. level_in n count k i * gap_of n) i p kind.few ∙ ap (λ y. y * gap_of n) e in
+      kind.gives (level_values n count k) i p (rw v small) ∙ v
+
+  pub choice_below : (u : List ℤ) (i : ℕ) → level (gap_of n) (slice_index_or u i (pos 0)) < n
+  choice_below u i = level_below n (gap_of n) (even s) (slice_index_or u i (pos 0))
+
+  -- each channel of the ink chosen is within half a gap
+  pub choice_close : (u : List ℤ) → ((i : ℕ) → i < count → Around (gap_of n / 2) u i)
+      → (i : ℕ) → i < count → Within (gap_of n / 2) u i (value (made (level_values n count (levels_choice n count u))) i)
+  choice_close u around i p =
+      let v = slice_index_or u i (pos 0) in
+      rw (value_at (levels_choice n count u) i (level (gap_of n) v) p
+      (level_in_ink n (λ i. level (gap_of n) (slice_index_or u i (pos 0))) (choice_below u) count i p) (level_tone n (gap_of n) (even s) v))
+      (level_close n (gap_of n) (even s) v (around i p).0 (around i p).1)
+
+pub some_is : (a b : ℕ) → ◌≡◌ {A = Option ℕ} (Some a) (Some b) → a ≡ b
+some_is a b e = cc
+
 -- What holds of each number of steps in the lists, computed there.
 
 abbrev every : (ℕ → Bool) → List ℕ → Bool
@@ -86,76 +169,17 @@ listed f n (x ∷ xs) a e =
     let p = and_parts (f x) (every f xs) a in
     ⊎_elim (λ h. ap f (eqb-true n x h) ∙ p.0) (λ h. listed f n xs p.1 h) (or_cases (n == x) (among n xs) e)
 
-abbrev even_test : ℕ → Bool
-even_test n = nat_le 2 n && (nat_le n 256 && ((n - 1) * gap_of n == 255 && (gap_of n == 2 * (gap_of n / 2) + 1 && nat_le (gap_of n) 255)))
+abbrev steps_test : ℕ → ℕ → Bool
+steps_test count n = nat_le 2 n && (nat_le (n ^ count) 256 && (n - 1) * gap_of n == 255)
 
-pub record Steps (n : ℕ) : Type 0 where
-  pub few : n ≤ 256
-  pub small : gap_of n ≤ 255
-  pub even : EvenSteps n (gap_of n)
-
-steps_of : (n : ℕ) → even_test n ≡ true → Steps n
-steps_of n t =
+steps_of : (count n : ℕ) → steps_test count n ≡ true → Steps count n
+steps_of count n t =
     let p = and_parts (nat_le 2 n) _ t in
-    let q = and_parts (nat_le n 256) _ p.1 in
-    let r = and_parts ((n - 1) * gap_of n == 255) _ q.1 in
-    let s = and_parts (gap_of n == 2 * (gap_of n / 2) + 1) (nat_le (gap_of n) 255) r.1 in
-    record {
-      few = leb-true n 256 q.0;
-      small = leb-true (gap_of n) 255 s.1;
-      even = record { two = leb-true 2 n p.0; whole = eqb-true _ 255 r.0; odd = eqb-true (gap_of n) _ s.0 };
-    }
+    let q = and_parts (nat_le (n ^ count) 256) _ p.1 in
+    record { two = leb-true 2 n p.0; few = leb-true (n ^ count) 256 q.0; whole = eqb-true _ 255 q.1 }
 
-pub grey_facts : (n : ℕ) → grey_steps n ≡ true → Steps n
-grey_facts n e = steps_of n (listed even_test n (2 ∷ 4 ∷ 6 ∷ 16 ∷ 18 ∷ 52 ∷ 86 ∷ 256 ∷ []) refl e)
+pub grey_facts : (n : ℕ) → grey_steps n ≡ true → Steps 1 n
+grey_facts n e = steps_of 1 n (listed (steps_test 1) n (2 ∷ 4 ∷ 6 ∷ 16 ∷ 18 ∷ 52 ∷ 86 ∷ 256 ∷ []) refl e)
 
-pub colour_facts : (n : ℕ) → colour_steps n ≡ true → Steps n
-colour_facts n e = steps_of n (listed even_test n (2 ∷ 4 ∷ 6 ∷ []) refl e)
-
-pub colour_few : (n : ℕ) → colour_steps n ≡ true → n * (n * n) ≤ 256
-colour_few n e = leb-true (n * (n * n)) 256 (listed (λ n. leb (n * (n * n)) 256) n (2 ∷ 4 ∷ 6 ∷ []) refl e)
-
--- the levels of an ink by its number
-module _ (n r g b : ℕ) (p : g < n) (q : b < n) where
-  pub blue_of : ((r * n + g) * n + b) % n ≡ b
-  blue_of = mod-mul-add (r * n + g) n b q
-
-  pub green_of : ((r * n + g) * n + b) / n % n ≡ g
-  green_of = ap (λ x. x % n) (div-mul-add (r * n + g) n b q) ∙ mod-mul-add r n g p
-
-  pub red_of : ((r * n + g) * n + b) / n / n ≡ r
-  red_of = ap (λ x. x / n) (div-mul-add (r * n + g) n b q) ∙ div-mul-add r n g p
-
--- one channel: the tone of its level is within half a gap
-channel_close : (n : ℕ) → Steps n → (u : List ℤ) (i k : ℕ) → k ≡ level (gap_of n) (slice_index_or u i (pos 0)) → Around (gap_of n / 2) u i
-    → Within (gap_of n / 2) u i (min (k * gap_of n) 255)
-channel_close n s u i k e around =
-    let v = get_or u i (pos 0) in
-    let t : min (k * gap_of n) 255 ≡ level (gap_of n) v * gap_of n =
-    ap (λ x. min (x * gap_of n) 255) e ∙ omega (arith, level_tone n (gap_of n) s.even v) in
-    rw t (level_close n (gap_of n) s.even v around.0 around.1)
-
--- what holds at the three channels
-pub each_channel : (P : ℕ → Type 0) → P 0 → P 1 → P 2 → (i : ℕ) → i < 3 → P i
-each_channel P a b c zero p = a
-each_channel P a b c (suc zero) p = b
-each_channel P a b c (suc (suc zero)) p = c
-each_channel P a b c (suc (suc (suc i))) p = absurd (omega arith)
-
-pub some_is : (a b : ℕ) → ◌≡◌ {A = Option ℕ} (Some a) (Some b) → a ≡ b
-some_is a b e = cc
-
-pub grey_close : (n : ℕ) → Steps n → (u : List ℤ) → ((i : ℕ) → i < 1 → Around (gap_of n / 2) u i)
-    → (i : ℕ) → i < 1 → Within (gap_of n / 2) u i (grey_value (grey_level n (grey_choice n u)) i)
-grey_close n s u around zero p = channel_close n s u 0 (grey_choice n u) refl (around 0 p)
-grey_close n s u around (suc i) p = absurd (omega arith)
-
-pub colour_close : (n : ℕ) → Steps n → (u : List ℤ) → ((i : ℕ) → i < 3 → Around (gap_of n / 2) u i)
-    → (i : ℕ) → i < 3 → Within (gap_of n / 2) u i (colour_value (colour_level n (colour_choice n u)) i)
-colour_close n s u around =
-    let at : ℕ → ℕ = λ i. level (gap_of n) (slice_index_or u i (pos 0)) in
-    let below : (i : ℕ) → at i < n = λ i. level_below n (gap_of n) s.even (slice_index_or u i (pos 0)) in
-    each_channel (λ i. Within (gap_of n / 2) u i (colour_value (colour_level n (colour_choice n u)) i))
-    (channel_close n s u 0 (colour_choice n u / n / n) (red_of n (at 0) (at 1) (at 2) (below 1) (below 2)) (around 0 (omega arith)))
-    (channel_close n s u 1 (colour_choice n u / n % n) (green_of n (at 0) (at 1) (at 2) (below 1) (below 2)) (around 1 (omega arith)))
-    (channel_close n s u 2 (colour_choice n u % n) (blue_of n (at 0) (at 1) (at 2) (below 1) (below 2)) (around 2 (omega arith)))
+pub colour_facts : (n : ℕ) → colour_steps n ≡ true → Steps 3 n
+colour_facts n e = steps_of 3 n (listed (steps_test 3) n (2 ∷ 4 ∷ 6 ∷ []) refl e)

@@ -1,8 +1,6 @@
 -- Sets of levels: n equal steps from 0 to 255 in each channel. Which inks there are, and which one is chosen.
-use Rattle.std.specs.Prelude.{ℕ, ◌+◌, ◌-◌, ◌*◌, ◌/◌, ◌%◌, min, Bool, false, ◌||◌, List, [], ◌∷◌, ℤ, pos, negsuc, Some, Option, ◌==◌, slice_index_or}
-use Rattle.tone.specs.Kinds.{colour_made, grey_made}
-use Rattle.tone.specs.declared.kinds.Colour.{Colour}
-use Rattle.tone.specs.declared.kinds.Grey.{Grey}
+use Rattle.std.specs.Prelude.{ℕ, zero, suc, ◌+◌, ◌-◌, ◌*◌, ◌/◌, ◌%◌, ◌^◌, min, Bool, false, ◌||◌, List, [], ◌∷◌, ℤ, pos, negsuc, Some, Option, ◌==◌, slice_index_or}
+use Rattle.tone.specs.Channels.{channels_of}
 
 -- the numbers of steps that there are sets for
 abbrev pub among : ℕ → List ℕ → Bool
@@ -28,21 +26,24 @@ gap_of n = 255 / (n - 1)
 abbrev pub level : ℕ → ℤ → ℕ
 level gap v = (cut_to_byte v + gap / 2) / gap
 
--- the tone of an ink
-abbrev pub grey_level : ℕ → ℕ → Grey
-grey_level n k = grey_made (k * gap_of n ∷ 0 ∷ 0 ∷ [])
+-- the ink that has the level `at i` in each channel i, of which there are c: the levels are the digits of its number in
+-- base n, so that of three channels ink (r * n + g) * n + b has the levels r, g and b
+abbrev pub ink_of : ℕ → (ℕ → ℕ) → ℕ → ℕ
+ink_of n at zero = 0
+ink_of n at (suc c) = ink_of n at c * n + at c
 
--- ink (r * n + g) * n + b has the levels r, g and b
-abbrev pub colour_level : ℕ → ℕ → Colour
-colour_level n k = colour_made (k / n / n * gap_of n ∷ k / n % n * gap_of n ∷ k % n * gap_of n ∷ [])
+-- the level of ink k in each channel
+abbrev pub level_in : ℕ → ℕ → ℕ → ℕ → ℕ
+level_in n c k zero = k / n ^ (c - 1)
+level_in n c k (suc i) = k / n ^ (c - 1 - suc i) % n
+
+-- the channel values of an ink
+abbrev pub level_values : ℕ → ℕ → ℕ → List ℕ
+level_values n c k = channels_of c (λ i. level_in n c k i * gap_of n)
 
 -- the ink chosen: each channel takes its nearest level
-abbrev pub grey_choice : ℕ → List ℤ → ℕ
-grey_choice n u = level (gap_of n) (slice_index_or u 0 (pos 0))
-
-abbrev pub colour_choice : ℕ → List ℤ → ℕ
-colour_choice n u =
-    (level (gap_of n) (slice_index_or u 0 (pos 0)) * n + level (gap_of n) (slice_index_or u 1 (pos 0))) * n + level (gap_of n) (slice_index_or u 2 (pos 0))
+abbrev pub levels_choice : ℕ → ℕ → List ℤ → ℕ
+levels_choice n c u = ink_of n (λ i. level (gap_of n) (slice_index_or u i (pos 0))) c
 
 -- half a gap, rounded down
 abbrev pub levels_spread : ℕ → Option ℕ

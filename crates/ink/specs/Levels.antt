@@ -1,49 +1,52 @@
--- What the two sets of levels mean.
-use Rattle.std.specs.Prelude.{◌≡◌, ℕ, ◌+◌, ◌*◌, ◌/◌, ◌<◌, true, pos, slice_index_or}
-use Rattle.std.proofs.Common.{subst, mul-pos, arith}
-use Rattle.std.proofs.lemmas.Nat.{mul-add-lt}
-use Rattle.tone.specs.Kinds.{colour_value, grey_value}
+-- What sets of levels mean.
+use Rattle.std.specs.Prelude.{◌≡◌, ℕ, zero, suc, ◌/◌, ◌^◌, ◌<◌, List, true, ◌≤◌, slice_index}
+use Rattle.std.proofs.Common.{subst, arith}
+use Rattle.std.proofs.Math.Nat.{one-le-pow}
+use Rattle.tone.specs.Kinds.{colour_made, colour_value, grey_made, grey_value}
 use Rattle.tone.specs.declared.kinds.Colour.{Colour}
 use Rattle.tone.specs.declared.kinds.Grey.{Grey}
 use Rattle.ink.specs.Inks.{Around, Inks, Within}
-use Rattle.ink.specs.LevelFacts.{colour_close, colour_facts, colour_few, grey_close, grey_facts, level_below, some_is}
-use Rattle.ink.specs.LevelRules.{colour_choice, colour_level, colour_steps, gap_of, grey_choice, grey_level, grey_steps, level, levels_spread}
+use Rattle.ink.specs.LevelFacts.{Kind, Steps, choice_below, choice_close, colour_facts, gap_small, grey_facts, ink_below, some_is}
+use Rattle.ink.specs.LevelRules.{colour_steps, gap_of, grey_steps, level_values, levels_choice, levels_spread}
 
-abbrev pub grey_levels : (n : ℕ) → grey_steps n ≡ true → Inks Grey
-grey_levels n ok = record {
-  channels = 1;
-  value = grey_value;
-  number = n;
-  tone = grey_level n;
-  choice = grey_choice n;
+-- n levels in each channel, for any kind of tone
+abbrev pub levels : {T : Type 0} (count : ℕ) (value : T → ℕ → ℕ) (made : List ℕ → T) → Kind count value made
+    → (n : ℕ) → Steps count n → Inks T
+levels count value made kind n s = record {
+  channels = count;
+  value = value;
+  number = n ^ count;
+  tone = λ k. made (level_values n count k);
+  choice = levels_choice n count;
   spread = levels_spread n;
-  some = omega (arith, (grey_facts n ok).even.two);
-  few = (grey_facts n ok).few;
-  below = λ u. level_below n (gap_of n) (grey_facts n ok).even (slice_index_or u 0 (pos 0));
-  bounded = λ e s. omega (arith, some_is (gap_of n / 2) e s, (grey_facts n ok).small);
-  close = λ u e long s. subst
-      (λ e. ((i : ℕ) → i < 1 → Around e u i) → (i : ℕ) → i < 1 → Within e u i (grey_value (grey_level n (grey_choice n u)) i))
-      (some_is (gap_of n / 2) e s) (grey_close n (grey_facts n ok) u);
+  some = one-le-pow count n (omega (arith, s.two));
+  few = s.few;
+  below = λ u. ink_below n _ (choice_below count value made kind n s u) count;
+  bounded = λ e q. omega (arith, some_is (gap_of n / 2) e q, gap_small s);
+  close = λ u e long q. subst
+      (λ e. ((i : ℕ) → i < count → Around e u i) → (i : ℕ) → i < count → Within e u i (value (made (level_values n count (levels_choice n count u))) i))
+      (some_is (gap_of n / 2) e q) (choice_close count value made kind n s u);
 }
+
+pub grey_kind : Kind 1 grey_value grey_made
+grey_kind = record { few = omega arith; gives = grey_gives }
+  where
+    grey_gives : (v : List ℕ) (i : ℕ) → i < 1 → slice_index v i ≤ 255 → grey_value (grey_made v) i ≡ slice_index v i
+    grey_gives v zero p q = omega arith
+    grey_gives v (suc i) p q = absurd (omega arith)
+
+pub colour_kind : Kind 3 colour_value colour_made
+colour_kind = record { few = omega arith; gives = colour_gives }
+  where
+    colour_gives : (v : List ℕ) (i : ℕ) → i < 3 → slice_index v i ≤ 255 → colour_value (colour_made v) i ≡ slice_index v i
+    colour_gives v zero p q = omega arith
+    colour_gives v (suc zero) p q = omega arith
+    colour_gives v (suc (suc zero)) p q = omega arith
+    colour_gives v (suc (suc (suc i))) p q = absurd (omega arith)
+
+-- the sets for the two kinds of tone
+abbrev pub grey_levels : (n : ℕ) → grey_steps n ≡ true → Inks Grey
+grey_levels n ok = levels 1 grey_value grey_made grey_kind n (grey_facts n ok)
 
 abbrev pub colour_levels : (n : ℕ) → colour_steps n ≡ true → Inks Colour
-colour_levels n ok = record {
-  channels = 3;
-  value = colour_value;
-  number = n * (n * n);
-  tone = colour_level n;
-  choice = colour_choice n;
-  spread = levels_spread n;
-  some = mul-pos (omega (arith, (colour_facts n ok).even.two)) (mul-pos (omega (arith, (colour_facts n ok).even.two)) (omega (arith, (colour_facts n ok).even.two)));
-  few = colour_few n ok;
-  below = λ u.
-      mul-add-lt (level (gap_of n) (slice_index_or u 0 (pos 0)) * n + level (gap_of n) (slice_index_or u 1 (pos 0))) n (level (gap_of n) (slice_index_or u 2 (pos 0))) (n * n)
-      (mul-add-lt (level (gap_of n) (slice_index_or u 0 (pos 0))) n (level (gap_of n) (slice_index_or u 1 (pos 0))) n
-      (level_below n (gap_of n) (colour_facts n ok).even (slice_index_or u 0 (pos 0)))
-      (level_below n (gap_of n) (colour_facts n ok).even (slice_index_or u 1 (pos 0))))
-      (level_below n (gap_of n) (colour_facts n ok).even (slice_index_or u 2 (pos 0)));
-  bounded = λ e s. omega (arith, some_is (gap_of n / 2) e s, (colour_facts n ok).small);
-  close = λ u e long s. subst
-      (λ e. ((i : ℕ) → i < 3 → Around e u i) → (i : ℕ) → i < 3 → Within e u i (colour_value (colour_level n (colour_choice n u)) i))
-      (some_is (gap_of n / 2) e s) (colour_close n (colour_facts n ok) u);
-}
+colour_levels n ok = levels 3 colour_value colour_made colour_kind n (colour_facts n ok)

@@ -1,23 +1,56 @@
-// Sets of levels: n steps in each channel, `gap` apart, from 0 to 255. A set with another number of steps than those
-// listed in `grey_steps` and `colour_steps` never exists.
-ghost use Rattle.std.specs.Prelude.{◌≡◌, true};
-ghost use Rattle.ink.specs.LevelRules.{colour_steps, gap_of, grey_steps};
+// Sets of levels: n steps in each channel, `gap` apart, from 0 to 255. A set with a number of steps that its kind of tone
+// does not list never exists.
+ghost use Rattle.std.specs.Prelude.{◌≡◌, if◌then◌else◌, ⊤, true};
+ghost use Rattle.ink.specs.LevelFacts.{Kind, Steps};
+ghost use Rattle.ink.specs.LevelRules.{gap_of};
 
-pub mod colour;
-pub mod grey;
+use std::alloc::AllocError;
+use std::marker::PhantomData;
+use tone::{Colour, Grey};
 
-#[derive(Clone, Copy)]
-pub struct GreyLevels {
+pub mod calls;
+pub mod kinds;
+
+pub use kinds::Levelled;
+
+pub struct Levels<T: Levelled> {
     steps: u16,
     gap: u16,
-    ghost listed: { grey_steps steps ≡ true },
+    kind: PhantomData<T>,
+    ghost listed: { T.Levelled.lists steps ≡ true },
     ghost equal: { gap ≡ gap_of steps },
+    // what the laws of the kind say, kept here since the meaning of a set cannot name a law
+    ghost even: { Steps T.Tone.count steps },
+    ghost sound: { Kind T.Tone.count T.Tone.value T.Tone.made },
 }
 
-#[derive(Clone, Copy)]
-pub struct ColourLevels {
-    steps: u16,
-    gap: u16,
-    ghost listed: { colour_steps steps ≡ true },
-    ghost equal: { gap ≡ gap_of steps },
+pub type GreyLevels = Levels<Grey>;
+
+pub type ColourLevels = Levels<Colour>;
+
+impl<T: Levelled> Levels<T> {
+    // The set of n steps; 2 steps where there is no set of n.
+    pub fn new(n: u16) -> Levels<T>
+        ensures { result.steps ≡ (if T.Levelled.lists n then n else 2) }
+    {
+        let steps = if T::lists(n) { n } else { 2 };
+        Levels {
+            steps,
+            gap: 255 / (steps - 1),
+            kind: PhantomData,
+        }
+    }
 }
+
+// Not derived: a struct with a ghost field and a parameter has no derived `Clone`.
+impl<T: Levelled> Clone for Levels<T> {
+    ghost is_clone = { λ s t. t ≡ s };
+
+    ghost is_infallible = { λ _. ⊤ };
+
+    fn clone(&self) -> Result<Self, AllocError> {
+        Ok(*self)
+    }
+}
+
+impl<T: Levelled> Copy for Levels<T> {}

@@ -11,7 +11,7 @@ pub mod sets;
 mod steps;
 pub mod values;
 
-pub use levels::{ColourLevels, GreyLevels};
+pub use levels::{ColourLevels, GreyLevels, Levelled, Levels};
 pub use list::InkList;
 pub use sets::InkSet;
 pub use values::{HIGHEST, LOWEST, limit, limit_all};

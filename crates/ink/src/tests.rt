@@ -1,11 +1,44 @@
 // Choices, tones and spreads of small sets.
+ghost use Rattle.std.specs.Prelude.{◌≡◌};
+ghost use Rattle.ink.specs.Inks.{ink_tone};
+ghost use Rattle.ink.specs.Levels.{colour_levels, grey_levels};
+ghost use Rattle.ink.specs.Nearness.{Nearest};
+ghost use Rattle.ink.specs.Values.{values};
+
 use crate::{ColourLevels, GreyLevels, InkList, InkSet};
 use tone::{Colour, Grey, Tone};
+
+// The calls at the two kinds of tone, in the words for each kind.
+fn choose_grey(inks: &GreyLevels, wanted: [i32; 3]) -> u16
+    ensures answer { result ≡ (grey_levels inks.now.steps inks.now.listed).choice (values 1 wanted) }
+    ensures nearest { Nearest (grey_levels inks.now.steps inks.now.listed) (values 1 wanted) result }
+{
+    inks.choose(wanted)
+}
+
+fn choose_colour(inks: &ColourLevels, wanted: [i32; 3]) -> u16
+    ensures answer { result ≡ (colour_levels inks.now.steps inks.now.listed).choice (values 3 wanted) }
+    ensures nearest { Nearest (colour_levels inks.now.steps inks.now.listed) (values 3 wanted) result }
+{
+    inks.choose(wanted)
+}
+
+fn grey_tone(inks: &GreyLevels, number: u16) -> Grey
+    ensures { result ≡ ink_tone (grey_levels inks.now.steps inks.now.listed) number }
+{
+    inks.tone(number)
+}
+
+fn colour_tone(inks: &ColourLevels, number: u16) -> Colour
+    ensures { result ≡ ink_tone (colour_levels inks.now.steps inks.now.listed) number }
+{
+    inks.tone(number)
+}
 
 #[test]
 fn grey_levels_take_the_nearest(rt: HostRuntime) {
     let two = GreyLevels::new(2);
-    assert_eq!(rt; two.choose([127, 0, 0]), 0);
+    assert_eq!(rt; choose_grey(&two, [127, 0, 0]), 0);
     assert_eq!(rt; two.choose([128, 0, 0]), 1);
     let four = GreyLevels::new(4);
     assert_eq!(rt; four.choose([42, 0, 0]), 0);
@@ -18,7 +51,7 @@ fn grey_levels_take_the_nearest(rt: HostRuntime) {
 fn grey_levels_answer(rt: HostRuntime) {
     let six = GreyLevels::new(6);
     assert_eq!(rt; six.count(), 6);
-    assert_eq!(rt; six.tone(5).light, 255);
+    assert_eq!(rt; grey_tone(&six, 5).light, 255);
     assert_eq!(rt; six.tone(6).light, 0);
     assert_eq!(rt; six.spread(), Some(25));
     assert_eq!(rt; GreyLevels::new(3).count(), 2);
@@ -28,9 +61,9 @@ fn grey_levels_answer(rt: HostRuntime) {
 #[test]
 fn colour_levels_take_the_nearest(rt: HostRuntime) {
     let two = ColourLevels::new(2);
-    assert_eq!(rt; two.choose([200, 10, 128]), 5);
+    assert_eq!(rt; choose_colour(&two, [200, 10, 128]), 5);
     assert_eq!(rt; two.count(), 8);
-    assert_eq!(rt; two.tone(5).channel(1), 0);
+    assert_eq!(rt; colour_tone(&two, 5).channel(1), 0);
     assert_eq!(rt; two.tone(5).channel(2), 255);
     assert_eq!(rt; two.tone(8).channel(0), 0);
     assert_eq!(rt; ColourLevels::new(16).count(), 8);

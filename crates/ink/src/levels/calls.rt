@@ -1,0 +1,61 @@
+// The calls of a set of levels. The levels of an ink are the digits of its number, so that of three channels ink
+// (r * n + g) * n + b has the levels r, g and b.
+ghost use Rattle.std.specs.Prelude.{◌≡◌, ◌<◌, ◌^◌, refl};
+ghost use Rattle.ink.specs.LevelRules.{level_values};
+ghost use Rattle.ink.specs.Levels.{levels};
+ghost use Rattle.ink.specs.Nearness.{Nearest};
+ghost use Rattle.ink.specs.Values.{values};
+
+use crate::levels::{Levelled, Levels};
+use crate::sets::InkSet;
+use crate::steps::{nearest_level, quotient};
+
+impl<T: Levelled> Levels<T> {
+    // The channel values of an ink; the places past the last channel hold 0.
+    fn channel_values(&self, ink: u16) -> [u8; 3]
+        requires { ink < self.now.steps ^ T.Tone.count }
+        ensures { result ≡ level_values self.now.steps T.Tone.count ink }
+    {
+        let mut values = [0; 3];
+        let mut high = ink;
+        for i in (1..T::channels()).rev() {
+            let rest = high;
+            high = quotient(rest, self.steps);
+            values[i] = ((rest - high * self.steps) * self.gap) as u8;
+        }
+        values[0] = (high * self.gap) as u8;
+        values
+    }
+}
+
+impl<T: Levelled> InkSet<T> for Levels<T> {
+    ghost meaning = { λ s. levels T.Tone.count T.Tone.value T.Tone.made s.sound s.steps s.even };
+
+    ghost kind = { λ s. (refl, refl) };
+
+    fn count(&self) -> u16 {
+        self.steps.pow(T::channels() as u32)
+    }
+
+    fn tone(&self, number: u16) -> T {
+        let ink = if number < self.count() { number } else { 0 };
+        T::build(self.channel_values(ink))
+    }
+
+    fn choose(&self, wanted: [i32; 3]) -> u16
+        ensures answer { result ≡ (levels T.Tone.count T.Tone.value T.Tone.made self.now.sound self.now.steps self.now.even).choice
+            (values T.Tone.count wanted) }
+        ensures nearest { Nearest (levels T.Tone.count T.Tone.value T.Tone.made self.now.sound self.now.steps self.now.even)
+            (values T.Tone.count wanted) result }
+    {
+        let mut ink = 0;
+        for value in &wanted[..T::channels()] {
+            ink = ink * self.steps + nearest_level(*value, self.gap);
+        }
+        ink
+    }
+
+    fn spread(&self) -> Option<u8> {
+        Some((self.gap / 2) as u8)
+    }
+}
