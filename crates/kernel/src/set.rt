@@ -94,6 +94,7 @@ impl Kernel {
     }
 
     // Sets another divisor and other taps. A refusal leaves the kernel as it was.
+    // The two are separate arguments, as callers have them; the private code passes them as one table.
     pub fn set(&mut self, divisor: u32, taps: &[Tap]) -> Result<(), KernelFault>
         ensures { Set (shape divisor taps.now) self.old self.new result }
     {
@@ -121,7 +122,7 @@ impl Kernel {
     pub fn weight(&self) -> u32
         ensures { result ≡ weights (meaning self.now).taps }
     {
-        // at most D, so it fits
+        // At most D, so it fits: no conversion that could fail is needed.
         weight_sum(self.taps()) as u32
     }
 }

@@ -40,7 +40,7 @@ pub(crate) struct Table<'a> {
     pub(crate) taps: &'a [Tap],
 }
 
-// A tap: rows down, columns ahead, weight.
+// A tap: rows down, columns ahead, weight. A macro, since the value of a constant calls no function.
 macro_rules! tap {
     ($down:expr, $ahead:expr, $weight:expr) => {
         Tap {

@@ -34,21 +34,11 @@ taps_on_or_off p n e (t ∷ ts) h a =
     rw (sum_by-cons (λ (t : Tap). t.weight) t ts) (omega (arith, ints))
 
 -- What one cell adds to the two sides of the balance. Its taps send `on` to cells of the page and `out` off it; its rest is `hand` or `end`; carried goes from c to c'.
-entry_sums : (A x q u y on out hand end c : ℤ) → hand +ℤ end ≡ A -ℤ q →
-    x ≡ y +ℤ (on +ℤ hand -ℤ A) +ℤ out +ℤ (u -ℤ y -ℤ (on +ℤ out)) +ℤ end +ℤ (x +ℤ q -ℤ u)
-entry_sums A x q u y on out hand end c r = omega (arith, ints)
-
-minus_none : (c : ℤ) → c -ℤ pos 0 ≡ c
-minus_none c = omega (arith, ints)
-
-grown : (c c' A more : ℤ) → c' +ℤ A ≡ c +ℤ more → c' -ℤ c ≡ more -ℤ A
-grown c c' A more e = omega (arith, ints)
-
 entry : (d x q u y e A R w on out hand end c c' : ℤ) → R ≡ A -ℤ d *ℤ q → e ≡ u -ℤ y → on +ℤ out ≡ w *ℤ e → hand +ℤ end ≡ R → c' +ℤ A ≡ c +ℤ (on +ℤ hand) →
     d *ℤ x ≡ d *ℤ y +ℤ (c' -ℤ c) +ℤ out +ℤ (d -ℤ w) *ℤ e +ℤ end +ℤ d *ℤ (x +ℤ q -ℤ u)
 entry d x q u y e A R w on out hand end c c' r is taps rests more =
-    rw (mul_sub d (x +ℤ q) u, mul_add d x q, sub_mul d w e, ← taps, ap (λ z. d *ℤ z) is, mul_sub d u y, grown c c' A (on +ℤ hand) more)
-    (entry_sums A (d *ℤ x) (d *ℤ q) (d *ℤ u) (d *ℤ y) on out hand end c (rests ∙ r))
+    let z = ap (λ z. d *ℤ z) is in
+    omega (arith, ints, mul_sub d (x +ℤ q) u, mul_add d x q, sub_mul d w e, mul_sub d u y)
 
 module _ (p : Page) (K : Shape) (s : Trace) where
   shares_split : (n j : ℕ) → shares p K s (waits n) j ≡ shares p K s (hits n) j +ℤ shares p K s (waits (suc n)) j
@@ -84,4 +74,4 @@ unfolding taken laid edge kernel rounding clipped
 balanced p K s n w k d =
     ΣExt n _ _ (λ j l. entered p K s j w k.each_ahead (d.rests j l) (d.errors j l))
     ∙ ΣSix n (λ j. D p K s *ℤ s.tone j) (λ j. carried p K s (suc j) -ℤ carried p K s j) (shares p K s off) (λ j. (D p K s -ℤ pos (weights K.taps)) *ℤ s.error j) (λ j. given (ends_row p j) (s.rest j)) (λ j. D p K s *ℤ (wanted p K s j -ℤ used p K s j))
-    ∙ rw (ΣTelescope n (carried p K s), none_carried, minus_none (carried p K s n))
+    ∙ rw (ΣTelescope n (carried p K s), none_carried) (omega (arith, ints))

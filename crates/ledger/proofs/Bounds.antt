@@ -1,8 +1,8 @@
 -- The size of errors and rests. Each tap has at most one sender, so |A| is at most W × E + (D - 1) where all errors before are within E; then |q| is at most E, u stays where the spread holds, and the next error is within E too.
-use Rattle.std.proofs.Common.{◌≡◌, ℕ, zero, suc, ◌+◌, ◌-◌, ◌*◌, ◌<◌, ◌≤◌, not, ℤ, pos, negsuc, ◌+ℤ◌, ◌-ℤ◌, ◌*ℤ◌, nat_abs, ◌≤ℤ◌, ◌∙◌, ⊎_elim, mul-le-mul_right, arith}
+use Rattle.std.proofs.Common.{◌≡◌, ℕ, zero, suc, ◌+◌, ◌-◌, ◌*◌, ◌<◌, ◌≤◌, not, ℤ, pos, negsuc, ◌+ℤ◌, ◌-ℤ◌, ◌*ℤ◌, nat_abs, ◌≤ℤ◌, add-one, mul-le-mul_right, arith}
 use lib.Signed.{quot_z, rem_z}
 use borrow.Author.Differences.{ints}
-use Rattle.std.proofs.lemmas.Bool.{cases_eq}
+use borrow.Author.Count.{below_more}
 use Rattle.std.proofs.lemmas.Int.{quot-rem, rem_below}
 use Rattle.std.proofs.lemmas.Nat.{div_below}
 use Rattle.ledger.specs.Page.{Page, cells, row, column}
@@ -34,10 +34,7 @@ limited_between v = grind (arith, ints)
 pub limited_errors : (p : Page) (K : Shape) (s : Trace) (n k : ℕ) → Diffused p K s n → k < n → Between (pos 0) (pos 255) (s.tone k) → nat_abs (s.error k) ≤ 510
 limited_errors p K s n k d l t =
     let b = limited_between (wanted p K s k) in
-    rw (d.errors k l) (apart (used p K s k) (s.tone k) b.0 b.1 t.0 t.1)
-  where
-    apart : (u y : ℤ) → negsuc 254 ≤ℤ u → u ≤ℤ pos 510 → pos 0 ≤ℤ y → y ≤ℤ pos 255 → nat_abs (u -ℤ y) ≤ 510
-    apart u y a b c d = omega (arith, ints)
+    rw (d.errors k l) (omega (arith, ints, b.0, b.1, t.0, t.1))
 
 module _ (p : Page) (K : Shape) (s : Trace) where
   pub rests_small : (n : ℕ) → 1 ≤ K.divisor → Diffused p K s n → (k : ℕ) → k < n → nat_abs (s.rest k) ≤ K.divisor - 1
@@ -96,17 +93,14 @@ module _ (p : Page) (K : Shape) (N : ℕ) (s : ℕ → Trace) (n : ℕ) (lo hi :
       let before = all_small m (omega arith) in
       let now : (c : ℕ) → c < N → nat_abs ((s c).error m) ≤ E = λ c h.
       rw ((run.diffused c h).errors m l) (run.spread m l (λ c h. rw (unlimited m l before c h) (reaches m l before c h)) c h) in
-      λ c h j i. ⊎_elim (λ e. rw e (now c h)) (λ ne. before c h j (omega arith)) (cases_eq j m)
+      λ c h. rw (← add-one) (below_more (λ j. nat_abs ((s c).error j) ≤ E) m (before c h) (now c h))
 
   pub unclipped : (c : ℕ) → c < N → (k : ℕ) → k < n → used p K (s c) k ≡ wanted p K (s c) k
   unclipped c h k l = unlimited k l (all_small k (omega arith)) c h
 
   none_clipped : (c : ℕ) → c < N → clipped p K (s c) n ≡ pos 0
   unfolding clipped
-  none_clipped c h = ΣZero n _ (λ k l. rw (unclipped c h k l) (nothing K.divisor (wanted p K (s c) k)))
-    where
-      nothing : (d : ℕ) (v : ℤ) → pos d *ℤ (v -ℤ v) ≡ pos 0
-      nothing d v = mul_sub (pos d) v v ∙ omega (arith, ints)
+  none_clipped c h = ΣZero n _ (λ k l. rw (unclipped c h k l) (omega (arith, ints, mul_sub (pos K.divisor) (wanted p K (s c) k) (wanted p K (s c) k))))
 
 pub bounded : (p : Page) (K : Shape) (N : ℕ) (s : ℕ → Trace) (n : ℕ) (lo hi : ℤ) (E : ℕ) → Ranged p K N s n lo hi E →
     (c : ℕ) → c < N → ((k : ℕ) → k < n → nat_abs ((s c).error k) ≤ E) × (clipped p K (s c) n ≡ pos 0)

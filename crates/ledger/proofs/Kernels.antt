@@ -2,7 +2,6 @@
 use Rattle.std.proofs.Common.{◌≡◌, ℕ, zero, suc, ◌<◌, ◌≤◌, Bool, true, false, cond, ◌&&◌, List, [], ◌∷◌, length, get_or, pos, ◌≤ℤ◌, Some, refl, arith}
 use borrow.Author.Differences.{ints}
 use Rattle.std.specs.Option.{is_none}
-use Rattle.std.proofs.lemmas.List.Sums.{get_or-le-sum_by}
 use Rattle.std.proofs.lemmas.Bool.{and_parts}
 use Rattle.kernel.specs.declared.tap.Tap.{Tap}
 use Rattle.kernel.specs.Rules.{Shape, rows_down, most_divisor, fits, rises, origin, first_bad, weights, valid}
@@ -58,6 +57,3 @@ pub reach_at : (L : ℕ) (ts : List Tap) (i : ℕ) (t : Tap) → EachReaches L t
 reach_at L [] i t a l = absurd (omega arith)
 reach_at L (s ∷ ts) zero t a l = a.0
 reach_at L (s ∷ ts) (suc i) t a l = reach_at L ts i t a.1 (omega arith)
-
-pub weight_at : (ts : List Tap) (i : ℕ) (t : Tap) → i < length ts → (get_or ts i t).weight ≤ weights ts
-weight_at ts i t l = get_or-le-sum_by (λ (t : Tap). t.weight) ts i t l

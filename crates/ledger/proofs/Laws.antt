@@ -1,6 +1,7 @@
 -- The three laws, at the run that takes a list of tones.
-use Rattle.std.proofs.Common.{◌≡◌, ℕ, zero, suc, ◌*◌, ◌<◌, ◌≤◌, length, get_or, pos, ◌-ℤ◌, ◌*ℤ◌, Some, refl, arith}
+use Rattle.std.proofs.Common.{◌≡◌, ℕ, suc, ◌*◌, ◌<◌, ◌≤◌, length, get_or, pos, ◌-ℤ◌, ◌*ℤ◌, Some, refl, ⊎_elim, arith}
 use borrow.Author.Differences.{ints}
+use Rattle.std.proofs.lemmas.Bool.{cases_lt}
 use Rattle.kernel.specs.Rules.{Shape}
 use Rattle.ledger.specs.Page.{Page}
 use Rattle.ledger.specs.Ledger.{Trace, lowest, highest, in_hand, wanted, used, Diffused, taken, laid, carried, edge, kernel, rounding, clipped}
@@ -13,6 +14,10 @@ use Rattle.ledger.proofs.Run.{met, each_length, each_at}
 use Rattle.ledger.proofs.Balance.{balanced, carried_step}
 use Rattle.ledger.proofs.Bounds.{limited_between, limited_errors, Ranged, bounded}
 use Rattle.ledger.proofs.Rectangle.{faithful}
+
+-- a page has some width or none
+by_width : {X : Type 0} (p : Page) → (p.width ≡ 0 → X) → (1 ≤ p.width → X) → X
+by_width p none some = ⊎_elim (λ l. none (omega arith)) some (cases_lt p.width 1)
 
 -- before the first cell everything is 0
 module _ (p : Page) (K : Shape) (s : Trace) where
@@ -50,10 +55,7 @@ module _ (S : Setup) (xs : Tones) (fair : Fair S xs) where
   pub tone_byte : (c k : ℕ) → c < S.channels → Between (pos 0) (pos 255) ((channel S xs c).tone k)
   tone_byte c k l =
       rw ((met S (samples xs) (suc k)).tones c k l (omega arith))
-      (byte (S.inks.tone (ink_of S (samples xs) k) c) (fair.inks.tones (ink_of S (samples xs) k) c (ink_below k) l))
-    where
-      byte : (y : ℕ) → y ≤ 255 → Between (pos 0) (pos 255) (pos y)
-      byte y h = (omega (arith, ints), omega (arith, ints))
+      (let h = fair.inks.tones (ink_of S (samples xs) k) c (ink_below k) l in (omega (arith, ints), omega (arith, ints)))
 
   pub sample_byte : (c k : ℕ) → c < S.channels → k < length xs → Between (pos 0) (pos 255) ((channel S xs c).sample k)
   unfolding run
@@ -78,32 +80,23 @@ module _ (S : Setup) (xs : Tones) (fair : Fair S xs) where
   none_done : S.page.width ≡ 0 → length xs ≡ 0
   none_done z = let q : S.page.width * S.page.height ≡ 0 = rw z (omega arith) in omega (arith, fair.page)
 
-  some_width : (w : ℕ) → S.page.width ≡ suc w → 1 ≤ S.page.width
-  some_width w e = omega arith
-
   errors_in : (c : ℕ) → c < S.channels → (E : ℕ) → S.inks.spread ≡ Some E → ErrorsWithin E (channel S xs c) (length xs) × (clipped S.page S.kernel (channel S xs c) (length xs) ≡ pos 0)
-  errors_in c l E e = go S.page.width refl
-    where
-      go : (w : ℕ) → S.page.width ≡ w → ErrorsWithin E (channel S xs c) (length xs) × (clipped S.page S.kernel (channel S xs c) (length xs) ≡ pos 0)
-      go zero z = let q = none_done z in ((λ k h. absurd (omega arith)), rw q (none_clipped S.page S.kernel (channel S xs c)))
-      go (suc w) z = bounded S.page S.kernel S.channels (channel S xs) (length xs) (pos 0) (pos 255) E (ranged E e (some_width w z)) c l
+  errors_in c l E e = by_width S.page
+      (λ z. let q = none_done z in ((λ k h. absurd (omega arith)), rw q (none_clipped S.page S.kernel (channel S xs c))))
+      (λ w. bounded S.page S.kernel S.channels (channel S xs) (length xs) (pos 0) (pos 255) E (ranged E e w) c l)
 
   balanced_in : (c : ℕ) → c < S.channels → Balanced S.page S.kernel (channel S xs c) (length xs)
-  balanced_in c l = go S.page.width refl
-    where
-      go : (w : ℕ) → S.page.width ≡ w → Balanced S.page S.kernel (channel S xs c) (length xs)
-      go zero z = rw (none_done z) (none_balanced S.page S.kernel (channel S xs c))
-      go (suc w) z = balanced S.page S.kernel (channel S xs c) (length xs) (some_width w z) (sound S.kernel fair.kernel) (diffused c l)
+  balanced_in c l = by_width S.page
+      (λ z. rw (none_done z) (none_balanced S.page S.kernel (channel S xs c)))
+      (λ w. balanced S.page S.kernel (channel S xs c) (length xs) w (sound S.kernel fair.kernel) (diffused c l))
 
   limited_in : (c : ℕ) → c < S.channels → ErrorsWithin 510 (channel S xs c) (length xs)
   limited_in c l = λ k h. limited_errors S.page S.kernel (channel S xs c) (length xs) k (diffused c l) h (tone_byte c k l)
 
   rectangles_in : (c : ℕ) → c < S.channels → (E : ℕ) → S.inks.spread ≡ Some E → RectanglesWithin E S.page S.kernel (channel S xs c) (length xs)
-  rectangles_in c l E e = go S.page.width refl
-    where
-      go : (w : ℕ) → S.page.width ≡ w → RectanglesWithin E S.page S.kernel (channel S xs c) (length xs)
-      go zero z = none_inside S.page S.kernel (channel S xs c) E (length xs) z
-      go (suc w) z = faithful S.page S.kernel S.channels (channel S xs) (length xs) (pos 0) (pos 255) E (ranged E e (some_width w z)) c l
+  rectangles_in c l E e = by_width S.page
+      (λ z. none_inside S.page S.kernel (channel S xs c) E (length xs) z)
+      (λ w. faithful S.page S.kernel S.channels (channel S xs) (length xs) (pos 0) (pos 255) E (ranged E e w) c l)
 
 pub balance : Balance
 balance S xs fair c l = balanced_in S xs fair c l
@@ -135,8 +128,6 @@ one_more p K s n = record {
 }
 
 pub aims : AimsLater
-aims p K ok i j m t l e = go p.width refl
-  where
-    go : (w : ℕ) → p.width ≡ w → j < m
-    go zero z = absurd (none_aimed p _ j m z e)
-    go (suc w) z = aims_later p _ j m (omega arith) (ahead_at K.taps i t (sound K ok).each_ahead l) e
+aims p K ok i j m t l e = by_width p
+    (λ z. absurd (none_aimed p _ j m z e))
+    (λ w. aims_later p _ j m w (ahead_at K.taps i t (sound K ok).each_ahead l) e)

@@ -1,7 +1,6 @@
 -- A cell's number, row and column give one another; taps aim at later cells.
-use Rattle.std.proofs.Common.{◌≡◌, ℕ, zero, suc, ◌+◌, ◌-◌, ◌/◌, ◌<◌, ◌≤◌, Bool, true, false, cond, ◌&&◌, ltb, ℤ, pos, negsuc, ◌≤ℤ◌, Some, None, sym, refl, ap, ◌∙◌, arith}
+use Rattle.std.proofs.Common.{◌≡◌, ℕ, zero, suc, ◌+◌, ◌-◌, ◌/◌, ◌<◌, ◌≤◌, Bool, cond, ℤ, pos, negsuc, ◌≤ℤ◌, Some, sym, refl, ap, ◌∙◌, arith}
 use borrow.Author.Differences.{ints}
-use Rattle.std.proofs.lemmas.Bool.{and_parts, ltb-true}
 use Rattle.std.proofs.lemmas.Option.{none-some}
 use Rattle.std.proofs.lemmas.Nat.{div-mul-add, mod-mul-add, mod_below, div-add-mod', rows}
 use Rattle.kernel.specs.declared.tap.Tap.{Tap}
@@ -38,13 +37,7 @@ cell_at_in p r c h l = grind arith
 pub cell_at_out : (p : Page) (r : ℕ) (c : ℤ) (m : ℕ) → cell_at p r c ≡ Some m → (i : ℕ) × (c ≡ pos i) × (r < p.height) × (i < p.width) × (m ≡ number p r i)
 unfolding cell_at
 cell_at_out p r (negsuc c) m e = absurd (none-some m e)
-cell_at_out p r (pos c) m e = go (ltb r p.height && ltb c p.width) refl e
-  where
-    go : (t : Bool) → (ltb r p.height && ltb c p.width) ≡ t → cond t (Some (number p r c)) None ≡ Some m → (i : ℕ) × (pos c ≡ pos i) × (r < p.height) × (i < p.width) × (m ≡ number p r i)
-    go true t e =
-        let b = and_parts (ltb r p.height) (ltb c p.width) t in
-        (c, refl, ltb-true r p.height b.0, ltb-true c p.width b.1, (cc))
-    go false t e = absurd (none-some m e)
+cell_at_out p r (pos c) m e = (c, refl, grind arith, grind arith, grind arith)
 
 -- ---- the cell that a tap aims at: its row and column
 pub aimed_out : (p : Page) (t : Tap) (j m : ℕ) → aimed p t j ≡ Some m → (row p m ≡ row p j + t.down) × (pos (column p m) ≡ ahead (backward p (row p j)) (pos (column p j)) t.ahead) × (m < cells p)
@@ -79,7 +72,7 @@ aims_later p t j m h rule e = go t.down refl
     go zero z =
         let same : row p m ≡ row p j = omega (arith, o.0) in
         let at_j = number_of p j h in
-        let at-m : number p (row p j) (column p m) ≡ m = rw same at (number_of p m h) in
+        let at_m : number p (row p j) (column p m) ≡ m = rw same at (number_of p m h) in
         let ahead = step_ahead (backward p (row p j)) p.width (column p j) (column p m) t.ahead (column_below p j h) (column_below p m h) (rule z) o.1 in
         omega arith
 

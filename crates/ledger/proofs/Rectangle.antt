@@ -1,8 +1,7 @@
 -- The sum of D × (x - y) over a rectangle. Cell by cell it is (D - W) × e, plus what the cell sends less what it is sent, plus its rest less the rest it was handed. What is sent within the rectangle cancels: for each tap, errors moved by its columns and rows differ from those in place only near the sides. Rests telescope along each row.
 use Rattle.std.specs.List.{sum_by}
-use Rattle.std.proofs.Common.{◌≡◌, ℕ, zero, suc, ◌+◌, ◌-◌, ◌*◌, ◌%◌, ◌<◌, ◌≤◌, Bool, true, false, cond, ltb, List, [], ◌∷◌, ℤ, pos, ◌+ℤ◌, ◌-ℤ◌, ◌*ℤ◌, neg_ℤ, nat_abs, sym, refl, ap, ◌∙◌, mul-le-mul_left, arith}
+use Rattle.std.proofs.Common.{◌≡◌, ℕ, zero, suc, ◌+◌, ◌-◌, ◌*◌, ◌<◌, ◌≤◌, Bool, true, false, cond, ltb, List, [], ◌∷◌, ℤ, pos, ◌+ℤ◌, ◌-ℤ◌, ◌*ℤ◌, neg_ℤ, nat_abs, refl, ap, ◌∙◌, mul-le-mul_left, arith}
 use borrow.Author.Differences.{ints}
-use Rattle.std.proofs.lemmas.Bool.{ltb-true, lt-ltb, ne_eqb}
 use Rattle.std.proofs.lemmas.Nat.{mod-mul-add}
 use Rattle.std.proofs.lemmas.Int.{unsigned_abs-mul}
 use Rattle.std.proofs.lemmas.List.Sums.{sum_by-cons}
@@ -79,11 +78,7 @@ weighted_grid h w ts g = ΣExt h _ _ (λ i l. weighted_swap w ts (λ t j. g t i 
 less_taps : (ts : List Tap) (z : ℤ) (g : Tap → ℤ) → pos (weights ts) *ℤ z -ℤ Σ∈ ts (λ t. pos t.weight *ℤ g t) ≡ Σ∈ ts (λ t. pos t.weight *ℤ (z -ℤ g t))
 less_taps [] z g = omega (arith, ints)
 less_taps (t ∷ ts) z g =
-    rw (sum_by-cons (λ (t : Tap). t.weight) t ts, add_mul (pos t.weight) (pos (weights ts)) z, mul_sub (pos t.weight) z (g t), ← less_taps ts z g)
-    (apart (pos t.weight *ℤ z) (pos (weights ts) *ℤ z) (pos t.weight *ℤ g t) (Σ∈ ts (λ t. pos t.weight *ℤ g t)))
-  where
-    apart : (a b c d : ℤ) → a +ℤ b -ℤ (c +ℤ d) ≡ a -ℤ c +ℤ (b -ℤ d)
-    apart a b c d = omega (arith, ints)
+    rw (sum_by-cons (λ (t : Tap). t.weight) t ts) (omega (arith, ints, add_mul (pos t.weight) (pos (weights ts)) z, mul_sub (pos t.weight) z (g t), less_taps ts z g))
 
 all_taps_abs : (ts : List Tap) (g : Tap → ℤ) (h w E : ℕ) → ((t : Tap) → nat_abs (g t) ≤ 2 * t.down * (w * E) + h * (2 * nat_abs t.ahead * E)) →
     nat_abs (Σ∈ ts (λ t. pos t.weight *ℤ g t)) ≤ 2 * E * (sum_by (λ (t : Tap). t.weight * nat_abs t.ahead) ts * h + sum_by (λ (t : Tap). t.weight * t.down) ts * w)
@@ -147,14 +142,11 @@ module _ (p : Page) (K : Shape) (s : Trace) (n : ℕ) (w : 1 ≤ p.width) (B : �
           (ends (p.width - (left + 0)) (p.width - (left + wide)))
 
 -- ---- the rectangle
-cell_sums : (e q w b hand R : ℤ) → R ≡ b +ℤ hand -ℤ q → e -ℤ q ≡ e -ℤ w +ℤ (w -ℤ b) +ℤ (R -ℤ hand)
-cell_sums e q w b hand R r = omega (arith, ints)
-
 cell_is : (d x y e u q b hand R w : ℤ) → R ≡ b +ℤ hand -ℤ d *ℤ q → e ≡ u -ℤ y → u ≡ x +ℤ q →
     d *ℤ (x -ℤ y) ≡ (d -ℤ w) *ℤ e +ℤ (w *ℤ e -ℤ b) +ℤ (R -ℤ hand)
 cell_is d x y e u q b hand R w r f g =
     let z : x -ℤ y ≡ e -ℤ q = omega (arith, ints) in
-    rw (z, mul_sub d e q, sub_mul d w e) (cell_sums (d *ℤ e) (d *ℤ q) (w *ℤ e) b hand R r)
+    rw z (omega (arith, ints, mul_sub d e q, sub_mul d w e))
 
 module _ (p : Page) (K : Shape) (s : Trace) (n E : ℕ) (w : 1 ≤ p.width) (sound : Sound K) (on : n ≤ cells p) (done : Diffused p K s n)
     (small : (k : ℕ) → k < n → nat_abs (s.error k) ≤ E) (free : (k : ℕ) → k < n → used p K s k ≡ wanted p K s k)

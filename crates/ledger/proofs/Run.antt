@@ -1,15 +1,14 @@
 -- A cell depends only on the cells before it. So the run that is computed follows the rules, and no other run does.
-use Rattle.std.proofs.Common.{◌≡◌, ℕ, zero, suc, ◌<◌, ◌≤◌, not, List, [], ◌∷◌, ◌++◌, length, get_or, ℤ, pos, ◌+ℤ◌, ◌-ℤ◌, ◌*ℤ◌, sym, refl, ap, ◌∙◌, ap₂, ⊎_elim, arith, length-append}
-use lib.Seq.{get_or-append_seam}
+use Rattle.std.proofs.Common.{◌≡◌, ℕ, zero, suc, ◌<◌, ◌≤◌, not, length, get_or, ℤ, pos, ◌+ℤ◌, ◌-ℤ◌, ◌*ℤ◌, sym, refl, ap, ◌∙◌, ap₂, add-one, arith, length-append}
+use borrow.Author.Count.{below_more}
 use lib.Signed.{quot_z}
-use Rattle.std.proofs.lemmas.Bool.{cases_eq}
-use Rattle.std.proofs.lemmas.List.{get_or_append_left}
+use Rattle.std.proofs.lemmas.Grind.{common_steps}
 use Rattle.std.proofs.lemmas.List.FromFn.{length-map-range_with_len, get_or-map-range_with_len, fill_by_all}
 use Rattle.kernel.specs.Rules.{Shape}
 use Rattle.ledger.specs.Sums.{given}
 use Rattle.ledger.specs.Page.{Page, hits, waits, off}
 use Rattle.ledger.specs.Ledger.{Trace, sent, ends_row, in_hand, pending, sum, remainder, limited, used, carried, edge}
-use Rattle.ledger.specs.Dots.{Setup, Dot, blank, each, values, so_far, next, dots, ink_of, run}
+use Rattle.ledger.specs.Dots.{Setup, blank, each, values, so_far, next, dots, ink_of, run}
 use Rattle.ledger.specs.Follows.{Follows, Met, Agree, Fixed}
 use Rattle.ledger.proofs.Sums.{ΣExt}
 
@@ -55,9 +54,6 @@ pub each_ext : (n : ℕ) (f g : ℕ → ℤ) → ((c : ℕ) → c < n → f c �
 each_ext n f g h = fill_by_all g (each n f) n (pos 0) (each_length n f) (λ c l. each_at n f c l ∙ h c l)
 
 -- ---- the run that is computed follows the rules
-last_at : (ds : List Dot) (d : Dot) (n : ℕ) → length ds ≡ n → get_or (ds ++ d ∷ []) n blank ≡ d
-last_at ds d n e = rw (← e) (get_or-append_seam ds d [] blank)
-
 module _ (S : Setup) (x : ℕ → ℕ → ℤ) where
   pub dots_length : (n : ℕ) → length (dots S x n) ≡ n
   unfolding dots
@@ -67,10 +63,7 @@ module _ (S : Setup) (x : ℕ → ℕ → ℤ) where
   pub dots_at : (n j : ℕ) → j < n → get_or (dots S x n) j blank ≡ next S x (dots S x j) j
   unfolding dots
   dots_at zero j l = absurd (omega arith)
-  dots_at (suc n) j l = ⊎_elim
-      (λ e. rw e (last_at (dots S x n) (next S x (dots S x n) n) n (dots_length n)))
-      (λ ne. get_or_append_left (dots S x n) _ blank j (omega (arith, dots_length n)) ∙ dots_at n j (omega arith))
-      (cases_eq j n)
+  dots_at (suc n) j l = let q = dots_at n j in let long = dots_length n in grind (arith, common_steps)
 
   so_far_alike : (k c : ℕ) → Alike (so_far S x (dots S x k) c) (run S x c) k
   unfolding run
@@ -132,7 +125,7 @@ module _ (S : Setup) (s t : ℕ → Trace) (i j : ℕ → ℕ) (n : ℕ) (fs : F
   up_to zero l = λ k h. absurd (omega arith)
   up_to (suc m) l =
       let before = up_to m (omega arith) in
-      λ k h. ⊎_elim (λ e. rw e (agree_next m l before)) (λ ne. before k (omega arith)) (cases_eq k m)
+      rw (← add-one) (below_more (Agree S s t i j) m before (agree_next m l before))
 
 pub fixed : Fixed
 fixed S s t i j n fs ft same k l = up_to S s t i j n fs ft same n (omega arith) k l

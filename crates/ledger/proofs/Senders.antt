@@ -1,7 +1,7 @@
 -- What is sent to a cell, read at the cells that send it: for each tap there is one sender, or none.
 use Rattle.std.proofs.Common.{◌≡◌, ℕ, ◌+◌, ◌-◌, ◌*◌, ◌<◌, ◌≤◌, Bool, true, false, not, ltb, List, [], ◌∷◌, ℤ, pos, negsuc, ◌+ℤ◌, ◌-ℤ◌, ◌*ℤ◌, nat_abs, Some, None, Option, sym, refl, ap, ◌∙◌, ⊎_elim, mul-le-mul_left, arith}
 use borrow.Author.Differences.{ints}
-use Rattle.std.proofs.lemmas.Bool.{cases_lt, eq-eqb, lt-ltb, ltb-true, ltb-false}
+use Rattle.std.proofs.lemmas.Bool.{cases_lt, eq-eqb, lt-ltb}
 use Rattle.std.proofs.lemmas.Option.{none-some}
 use Rattle.std.proofs.lemmas.Int.{unsigned_abs-mul}
 use Rattle.std.proofs.lemmas.List.Sums.{sum_by-cons}
@@ -84,8 +84,8 @@ module _ (p : Page) (e : ℕ → ℤ) (N n k : ℕ) (t : Tap) (w : 1 ≤ p.width
         on = rw (sender_aims j y) (eq-eqb k k refl)
 
         go : (b : Bool) → ltb j N ≡ b → Σ< N (λ j. given (hits k (aimed p t j)) (e j)) ≡ given b (e j)
-        go true f = ΣOne N (λ j. hits k (aimed p t j)) e j (ltb-true j N f) on (λ i b h. only i h)
-        go false f = ΣNone N (λ j. hits k (aimed p t j)) e (λ i b h. omega (arith, only i h, ltb-false j N f))
+        go true f = ΣOne N (λ j. hits k (aimed p t j)) e j (grind arith) on (λ i b h. only i h)
+        go false f = ΣNone N (λ j. hits k (aimed p t j)) e (λ i b h. let q = only i h in grind arith)
 
   pub one_sender : Σ< N (λ j. given (hits k (aimed p t j)) (e j)) ≡ sender p e n t (pos (row p k)) (pos (column p k))
   unfolding error_at

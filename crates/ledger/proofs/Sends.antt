@@ -1,5 +1,5 @@
 -- What a cell sends: from tap to tap, to which cells, and how much at most.
-use Rattle.std.proofs.Common.{◌≡◌, ℕ, zero, suc, ◌+◌, ◌*◌, ◌<◌, ◌≤◌, Bool, true, false, List, [], ◌∷◌, length, get_or, take, ℤ, pos, ◌+ℤ◌, ◌*ℤ◌, nat_abs, Option, refl, ⊎_elim, mul-le-mul_right, mul-le-mul_left, arith}
+use Rattle.std.proofs.Common.{◌≡◌, ℕ, zero, suc, ◌+◌, ◌*◌, ◌<◌, ◌≤◌, Bool, true, List, [], ◌∷◌, length, get_or, take, ℤ, pos, ◌+ℤ◌, ◌*ℤ◌, nat_abs, Option, refl, ⊎_elim, mul-le-mul_right, mul-le-mul_left, arith}
 use borrow.Author.Differences.{ints}
 use Rattle.std.proofs.lemmas.Bool.{cases_lt}
 use Rattle.std.proofs.lemmas.Int.{unsigned_abs-mul}
@@ -21,7 +21,7 @@ pub sent_more : (p : Page) (ts : List Tap) (test : Option ℕ → Bool) (j : ℕ
 unfolding sent
 sent_more p [] test j e i t l = absurd (omega arith)
 sent_more p (s ∷ ts) test j e zero t l = omega (arith, ints)
-sent_more p (s ∷ ts) test j e (suc i) t l = let m = sent_more p ts test j e i t (omega arith) in omega (arith, ints)
+sent_more p (s ∷ ts) test j e (suc i) t l = omega (arith, ints, sent_more p ts test j e i t (omega arith))
 
 -- ---- where no tap passes the test, nothing is sent
 abbrev NoneAims : Page → (Option ℕ → Bool) → ℕ → List Tap → Type 0
@@ -31,12 +31,7 @@ NoneAims p test j (t ∷ ts) = (test (aimed p t j) ≡ true → ⊥) × NoneAims
 none_sent : (p : Page) (ts : List Tap) (test : Option ℕ → Bool) (j : ℕ) (e : ℤ) → NoneAims p test j ts → sent p ts test j e ≡ pos 0
 unfolding sent
 none_sent p [] test j e n = refl
-none_sent p (t ∷ ts) test j e n = go (test (aimed p t j)) refl (none_sent p ts test j e n.1)
-  where
-    go : (b : Bool) → test (aimed p t j) ≡ b → Σ∈ ts (λ t. given (test (aimed p t j)) (pos t.weight *ℤ e)) ≡ pos 0 →
-        given b (pos t.weight *ℤ e) +ℤ Σ∈ ts (λ t. given (test (aimed p t j)) (pos t.weight *ℤ e)) ≡ pos 0
-    go true y more = absurd (n.0 y)
-    go false y more = omega (arith, ints)
+none_sent p (t ∷ ts) test j e n = let no = n.0 in let more = none_sent p ts test j e n.1 in grind (arith, ints)
 
 -- nothing to an earlier cell or the cell itself
 pub none_back : (p : Page) (ts : List Tap) (j m : ℕ) (e : ℤ) → 1 ≤ p.width → EachAhead ts → m ≤ j → sent p ts (hits m) j e ≡ pos 0

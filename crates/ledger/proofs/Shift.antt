@@ -12,10 +12,7 @@ one_along f a zero = ap (λ z. pos 0 +ℤ f z) (omega (arith, ints))
 one_along f a (suc n) =
     let e = one_along f a n in
     let g : f (a +ℤ pos 1 +ℤ pos n) ≡ f (a +ℤ pos (suc n)) = ap f (omega (arith, ints)) in
-    sums (stretch f (a +ℤ pos 1) n) (f a) (stretch f a n) (f (a +ℤ pos n)) _ _ e g
-  where
-    sums : (x y z u v r : ℤ) → x +ℤ y ≡ z +ℤ u → v ≡ r → x +ℤ v +ℤ y ≡ z +ℤ u +ℤ r
-    sums x y z u v r e g = omega (arith, ints)
+    omega (arith, ints, e, g)
 
 along : (f : ℤ → ℤ) (B : ℕ) → ((z : ℤ) → nat_abs (f z) ≤ B) → (a : ℤ) (n m : ℕ) → nat_abs (stretch f (a +ℤ pos m) n -ℤ stretch f a n) ≤ 2 * m * B
 along f B h a n zero =
@@ -23,10 +20,7 @@ along f B h a n zero =
     rw e (omega (arith, ints))
 along f B h a n (suc m) =
     let e : a +ℤ pos (suc m) ≡ a +ℤ pos m +ℤ pos 1 = omega (arith, ints) in
-    rw e (sums (stretch f (a +ℤ pos m +ℤ pos 1) n) (f (a +ℤ pos m)) (stretch f (a +ℤ pos m) n) (f (a +ℤ pos m +ℤ pos n)) (stretch f a n) (one_along f (a +ℤ pos m) n) (h (a +ℤ pos m)) (h (a +ℤ pos m +ℤ pos n)) (along f B h a n m))
-  where
-    sums : (x y z u v : ℤ) → x +ℤ y ≡ z +ℤ u → nat_abs y ≤ B → nat_abs u ≤ B → nat_abs (z -ℤ v) ≤ 2 * m * B → nat_abs (x -ℤ v) ≤ 2 * suc m * B
-    sums x y z u v e p q r = omega (arith, ints)
+    rw e (omega (arith, ints, one_along f (a +ℤ pos m) n, h (a +ℤ pos m), h (a +ℤ pos m +ℤ pos n), along f B h a n m))
 
 -- moved by s, to either side
 pub moved_abs : (f : ℤ → ℤ) (B : ℕ) → ((z : ℤ) → nat_abs (f z) ≤ B) → (a s : ℤ) (n : ℕ) → nat_abs (stretch f a n -ℤ stretch f (a -ℤ s) n) ≤ 2 * nat_abs s * B
@@ -35,7 +29,4 @@ moved_abs f B h a (pos m) n =
     rw e at (along f B h (a -ℤ pos m) n m)
 moved_abs f B h a (negsuc m) n =
     let e : a -ℤ negsuc m ≡ a +ℤ pos (suc m) = omega (arith, ints) in
-    rw e (turn (stretch f a n) (stretch f (a +ℤ pos (suc m)) n) (2 * suc m * B) (along f B h a n (suc m)))
-  where
-    turn : (x y : ℤ) (C : ℕ) → nat_abs (y -ℤ x) ≤ C → nat_abs (x -ℤ y) ≤ C
-    turn x y C l = omega (arith, ints)
+    rw e (omega (arith, ints, along f B h a n (suc m)))

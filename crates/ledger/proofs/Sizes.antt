@@ -12,7 +12,7 @@ use Rattle.ledger.specs.Memory.{Memory, awaits, Holds, SmallCell, Small, Sizes}
 use Rattle.ledger.proofs.Ring.{abs_add}
 use Rattle.ledger.proofs.Sums.{given_abs, ΣAbs}
 use Rattle.ledger.proofs.Kernels.{Sound, sound}
-use Rattle.ledger.proofs.Bounds.{rest_small, quotient_abs, limited_between, limited_errors, rests_small, hand_small}
+use Rattle.ledger.proofs.Bounds.{rest_small, quotient_abs, limited_errors, rests_small, hand_small}
 use Rattle.ledger.proofs.Sends.{sent_small, pending_small}
 use Rattle.ledger.proofs.Run.{met}
 use Rattle.ledger.proofs.Laws.{tone_byte, sample_byte}

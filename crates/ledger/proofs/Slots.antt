@@ -1,10 +1,9 @@
 -- The places of the kept rows are apart: writing one changes what is read at one cell.
-use Rattle.std.proofs.Common.{◌≡◌, ℕ, ◌+◌, ◌*◌, ◌<◌, ◌≤◌, not, eqb, ◌≢◌, List, length, get_or, set, ℤ, pos, ◌+ℤ◌, sym, refl, ap, ◌∙◌, ap₂, ⊎_elim, arith, get_or-set_other, get_or-set_same}
+use Rattle.std.proofs.Common.{◌≡◌, ℕ, ◌+◌, ◌*◌, ◌<◌, ◌≤◌, not, eqb, List, length, get_or, set, ℤ, pos, ◌+ℤ◌, arith}
 use borrow.Author.Differences.{ints}
-use Rattle.std.proofs.lemmas.Bool.{cases_eq, eq-eqb, ne_eqb}
 use Rattle.std.proofs.lemmas.Grind.{common_steps}
 use Rattle.ledger.specs.Sums.{given}
-use Rattle.ledger.specs.Page.{Page, row, column, number}
+use Rattle.ledger.specs.Page.{Page, number}
 use Rattle.ledger.specs.Memory.{kept_rows, kept_columns, slot}
 use Rattle.ledger.proofs.Page.{row_number, column_number}
 

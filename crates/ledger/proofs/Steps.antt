@@ -1,12 +1,11 @@
 -- From cell to cell: a memory that holds the run so far, changed as one cell changes it, holds the run with that cell.
-use Rattle.std.proofs.Common.{◌≡◌, ℕ, suc, ◌+◌, ◌*◌, ◌/◌, ◌%◌, ◌<◌, ◌≤◌, not, eqb, leb, ◌⊎◌, get_or, ℤ, pos, ◌+ℤ◌, ◌-ℤ◌, ◌*ℤ◌, sym, refl, ap, ◌∙◌, ap₂, ⊎_elim, arith}
+use Rattle.std.proofs.Common.{◌≡◌, ℕ, suc, ◌+◌, ◌*◌, ◌/◌, ◌%◌, ◌<◌, ◌≤◌, not, eqb, leb, ◌⊎◌, get_or, ℤ, pos, ◌+ℤ◌, ◌-ℤ◌, ◌*ℤ◌, sym, refl, ap, ◌∙◌, ap₂, arith}
 use lib.Signed.{quot_z}
 use borrow.Author.Differences.{ints}
-use Rattle.std.proofs.lemmas.Bool.{cases_eq, cases_lt, eq-eqb, ne_eqb}
 use Rattle.std.proofs.lemmas.Nat.{mod_below, div-add-mod', rows}
 use Rattle.kernel.specs.Rules.{Shape, weights}
 use Rattle.ledger.specs.Sums.{Σ<, given}
-use Rattle.ledger.specs.Page.{Page, row, column, number, hits, waits, off}
+use Rattle.ledger.specs.Page.{Page, row, column, number, hits, off}
 use Rattle.ledger.specs.Ledger.{Trace, sent, shares, ends_row, in_hand, pending, sum, remainder, limited, wanted, used, carried, edge, rounding}
 use Rattle.ledger.specs.Memory.{slot, kept_rows, kept_columns, Memory, awaits, Holds, Stepped, sum_of, wanted_of, rest_of, error_of}
 use Rattle.ledger.proofs.Sums.{ΣExt}
@@ -71,14 +70,14 @@ pending_more p K s n m = refl
 none_and : (a b : ℤ) → a ≡ pos 0 → b ≡ pos 0 → a +ℤ b ≡ pos 0
 none_and a b e f = omega (arith, ints)
 
-carry_on : (c c' a on out all hand : ℤ) → c' +ℤ a ≡ c +ℤ (on +ℤ hand) → on +ℤ out ≡ all → c -ℤ a +ℤ (all -ℤ out) +ℤ hand ≡ c'
-carry_on c c' a on out all hand e f = omega (arith, ints)
-
 -- A of the next cell is what waits there with the rest in hand
 pub sum_held : (p : Page) (K : Shape) → 1 ≤ p.width → (t : Trace) (k : ℕ) (h : Memory) → Holds p K t k h → sum_of p k h ≡ sum p K t k
-sum_held p K w t k h held = ap₂ (λ b h. b +ℤ h)
-    (held.memory (row p k) (column p k) (column_below p k w) (omega arith) (omega arith) ∙ ap (awaits p K t k) (number_of p k w) ∙ awaits_ahead p K t k k (omega arith))
-    held.hand_is
+sum_held p K w t k h held =
+    let waits = held.memory (row p k) (column p k) (column_below p k w) (omega arith) (omega arith) in
+    let is = awaits_ahead p K t k k (omega arith) in
+    let here = number_of p k w in
+    let hand = held.hand_is in
+    cc
 
 -- ---- one cell: t is by the rules at cell k, where the memory h becomes h'
 module _ (p : Page) (K : Shape) (L : ℕ) (w : 1 ≤ p.width) (later : EachAhead K.taps) (near : EachReaches L K.taps) (few : L < kept_rows) (t : Trace) (k : ℕ)
@@ -100,33 +99,27 @@ module _ (p : Page) (K : Shape) (L : ℕ) (w : 1 ≤ p.width) (later : EachAhead
   -- the places of done cells are cleared
   zero_at : (r c : ℕ) → c < p.width → row p k ≤ r → r < row p k + kept_rows → number p r c ≤ k → get_or h'.waiting (slot r c) (pos 0) ≡ pos 0
   zero_at r c l i j m = done.memory r c l i j ∙ none_and (given (not (eqb (number p r c) k)) (get_or h.waiting (slot r c) (pos 0))) (sent p K.taps (hits (number p r c)) k (error_of K (t.sample k) (t.tone k) a))
-      (⊎_elim
-      (λ q. rw (eq-eqb (number p r c) k q))
-      (λ q. rw (ne_eqb (number p r c) k q) (held.memory r c l i j ∙ awaits_done p K t k (number p r c) (omega arith)))
-      (cases_eq (number p r c) k))
+      (let is = held.memory r c l i j in grind (arith, ints, awaits_done p K t k (number p r c)))
       (none_back p K.taps k (number p r c) _ w later m)
 
   more_at : (r c : ℕ) → c < p.width → row p k ≤ r → r < row p k + kept_rows → suc k ≤ number p r c → get_or h'.waiting (slot r c) (pos 0) ≡ pending p K t (suc k) (number p r c)
   more_at r c l i j m =
-      let ne = ne_eqb (number p r c) k (λ q. omega arith) in
-      done.memory r c l i j
-      ∙ ap₂ (λ b d. b +ℤ d) (ap (λ b. given (not b) (get_or h.waiting (slot r c) (pos 0))) ne ∙ held.memory r c l i j ∙ awaits_ahead p K t k (number p r c) (omega arith))
-      (ap (sent p K.taps (hits (number p r c)) k) e_is)
-      ∙ sym (pending_more p K t k (number p r c))
+      let is = held.memory r c l i j in
+      let next = done.memory r c l i j in
+      let more = pending_more p K t k (number p r c) in
+      let sends = ap (sent p K.taps (hits (number p r c)) k) e_is in
+      grind (arith, ints, awaits_ahead p K t k (number p r c))
 
   in_rows : (r c : ℕ) → c < p.width → row p k ≤ r → r < row p k + kept_rows → get_or h'.waiting (slot r c) (pos 0) ≡ awaits p K t (suc k) (number p r c)
-  in_rows r c l i j = ⊎_elim
-      (λ m. zero_at r c l i j (omega arith) ∙ sym (awaits_done p K t (suc k) (number p r c) m))
-      (λ m. more_at r c l i j m ∙ sym (awaits_ahead p K t (suc k) (number p r c) m))
-      (cases_lt (number p r c) (suc k))
+  in_rows r c l i j = grind (arith, zero_at r c l i j, more_at r c l i j, awaits_done p K t (suc k) (number p r c), awaits_ahead p K t (suc k) (number p r c))
 
   -- the row that takes the places of one that is all done
   new_row : (c : ℕ) → c < p.width → suc k / p.width ≡ suc (row p k) → get_or h'.waiting (slot (row p k + kept_rows) c) (pos 0) ≡ awaits p K t (suc k) (number p (row p k + kept_rows) c)
   new_row c l q =
       let x = row_number p (row p k) c l in
       let y = row_number p (row p k + kept_rows) c l in
-      let small : number p (row p k) c ≤ k = ⊎_elim (λ i. let m = row_mono p.width (suc k) (number p (row p k) c) w i in absurd (omega arith)) (λ i. omega arith) (cases_lt k (number p (row p k) c)) in
-      let big : suc k ≤ number p (row p k + kept_rows) c = ⊎_elim (λ i. let m = row_mono p.width (number p (row p k + kept_rows) c) k w (omega arith) in absurd (omega arith)) (λ i. i) (cases_lt (number p (row p k + kept_rows) c) (suc k)) in
+      let small : number p (row p k) c ≤ k = grind (arith, row_mono p.width (suc k) (number p (row p k) c) w) in
+      let big : suc k ≤ number p (row p k + kept_rows) c = grind (arith, row_mono p.width (number p (row p k + kept_rows) c) k w) in
       ap (λ i. get_or h'.waiting (i * kept_columns + c) (pos 0)) (wraps (row p k)) ∙ zero_at (row p k) c l (omega arith) (omega arith) small
       ∙ sym (awaits_ahead p K t (suc k) (number p (row p k + kept_rows) c) big ∙ far_pending p K t (suc k) (number p (row p k + kept_rows) c) L near (λ j i. let m = row_mono p.width j k w (omega arith) in omega arith))
     where
@@ -134,29 +127,21 @@ module _ (p : Page) (K : Shape) (L : ℕ) (w : 1 ≤ p.width) (later : EachAhead
       wraps r = omega arith
 
   memory_next : (r c : ℕ) → c < p.width → row p (suc k) ≤ r → r < row p (suc k) + kept_rows → get_or h'.waiting (slot r c) (pos 0) ≡ awaits p K t (suc k) (number p r c)
-  memory_next r c l i j = ⊎_elim
-      (λ n. in_rows r c l (omega arith) (omega arith))
-      (λ n. ⊎_elim
-      (λ q. rw q (new_row c l n.0))
-      (λ q. in_rows r c l (omega arith) (omega arith))
-      (cases_eq r (row p k + kept_rows)))
-      (row_next p.width k w)
+  memory_next r c l i j = let n = row_next p.width k w in let at = in_rows r c l in let new = new_row c l in grind arith
 
   carry_next : h'.carry ≡ carried p K t (suc k)
   carry_next =
-      done.carry_is
-      ∙ ap₂ (λ c a. c -ℤ a +ℤ (pos (weights K.taps) *ℤ error_of K (t.sample k) (t.tone k) a -ℤ sent p K.taps off k (error_of K (t.sample k) (t.tone k) a)) +ℤ h'.hand) held.carry_is a_is
-      ∙ ap₂ (λ e d. carried p K t k -ℤ sum p K t k +ℤ (pos (weights K.taps) *ℤ e -ℤ sent p K.taps off k e) +ℤ d) (sym error) hand_next
-      ∙ carry_on (carried p K t k) (carried p K t (suc k)) (sum p K t k) (shares p K t (waits (suc k)) k) (shares p K t off k) (pos (weights K.taps) *ℤ t.error k) (in_hand p K t (suc k))
-      (carried_step p K t k) (shares_own p K t k w later)
+      let is : h'.carry ≡ carried p K t k -ℤ sum p K t k +ℤ (pos (weights K.taps) *ℤ t.error k -ℤ shares p K t off k) +ℤ in_hand p K t (suc k) =
+      let a = done.carry_is in let b = held.carry_is in let c = a_is in let d = e_is in let e = hand_next in cc in
+      omega (arith, ints, is, carried_step p K t k, shares_own p K t k w later)
 
   off_page_next : h'.off_page ≡ edge p K t (suc k)
   unfolding edge
-  off_page_next = done.off_page_is ∙ ap₂ (λ a b. a +ℤ b) held.off_page_is (ap (sent p K.taps off k) e_is)
+  off_page_next = let a = done.off_page_is in let b = held.off_page_is in let c = e_is in cc
 
   row_ends_next : h'.row_ends ≡ rounding p K t (suc k)
   unfolding rounding
-  row_ends_next = done.row_ends_is ∙ ap₂ (λ a b. a +ℤ given (ends_row p k) b) held.row_ends_is r_is
+  row_ends_next = let a = done.row_ends_is in let b = held.row_ends_is in let c = r_is in cc
 
   pub holds_on : Holds p K t (suc k) h'
   holds_on = record {

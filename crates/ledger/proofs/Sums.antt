@@ -1,5 +1,5 @@
 -- Finite sums of whole numbers: linear, exchanged, of one term, telescoping, and their size.
-use Rattle.std.proofs.Common.{◌≡◌, ℕ, zero, suc, ◌*◌, ◌<◌, ◌≤◌, Bool, true, false, List, [], ◌∷◌, ℤ, pos, ◌+ℤ◌, ◌-ℤ◌, ◌*ℤ◌, nat_abs, sym, refl, ap, ◌∙◌, ⊎_elim, arith}
+use Rattle.std.proofs.Common.{◌≡◌, ℕ, zero, suc, ◌*◌, ◌<◌, ◌≤◌, Bool, true, List, [], ◌∷◌, ℤ, pos, ◌+ℤ◌, ◌-ℤ◌, ◌*ℤ◌, nat_abs, refl, ap, ◌∙◌, ⊎_elim, arith}
 use borrow.Author.Differences.{ints}
 use Rattle.std.proofs.lemmas.Bool.{cases_eq}
 use Rattle.ledger.specs.Sums.{Σ<, Σ∈, given}
@@ -36,10 +36,7 @@ pub ΣSix : (n : ℕ) (a b c d e f : ℕ → ℤ) → Σ< n (λ k. a k +ℤ b k 
 
 pub ΣMul : (n : ℕ) (a : ℤ) (f : ℕ → ℤ) → Σ< n (λ k. a *ℤ f k) ≡ a *ℤ Σ< n f
 ΣMul zero a f = omega (arith, ints)
-ΣMul (suc n) a f = let p = ΣMul n a f in p' p
-  where
-    p' : Σ< n (λ k. a *ℤ f k) ≡ a *ℤ Σ< n f → Σ< n (λ k. a *ℤ f k) +ℤ a *ℤ f n ≡ a *ℤ (Σ< n f +ℤ f n)
-    p' p = ap (λ z. z +ℤ a *ℤ f n) p ∙ sym (mul_add a (Σ< n f) (f n))
+ΣMul (suc n) a f = omega (arith, ints, ΣMul n a f, mul_add a (Σ< n f) (f n))
 
 pub ΣAbs : (n B : ℕ) (f : ℕ → ℤ) → ((k : ℕ) → k < n → nat_abs (f k) ≤ B) → nat_abs (Σ< n f) ≤ n * B
 ΣAbs zero B f h = omega arith
@@ -48,33 +45,19 @@ pub ΣAbs : (n B : ℕ) (f : ℕ → ℤ) → ((k : ℕ) → k < n → nat_abs (
     let q = h n (omega arith) in
     omega (arith, abs_add (Σ< n f) (f n))
 
+pub ΣNone : (n : ℕ) (b : ℕ → Bool) (f : ℕ → ℤ) → ((k : ℕ) → k < n → b k ≡ true → ⊥) → Σ< n (λ k. given (b k) (f k)) ≡ pos 0
+ΣNone n b f h = ΣZero n (λ k. given (b k) (f k)) (λ k m. let no = h k m in grind arith)
+
 -- one term alone
 pub ΣOne : (n : ℕ) (b : ℕ → Bool) (f : ℕ → ℤ) (i : ℕ) → i < n → b i ≡ true → ((k : ℕ) → k < n → b k ≡ true → k ≡ i) → Σ< n (λ k. given (b k) (f k)) ≡ f i
 ΣOne zero b f i l y u = absurd (omega arith)
 ΣOne (suc n) b f i l y u = ⊎_elim
-    (λ e. last e)
-    (λ e. early (omega arith) (ΣOne n b f i (omega arith) y (λ k m. u k (omega arith))) (b n) refl e)
+    (λ e. let z = ΣNone n b f (λ k m q. omega (arith, u k (omega arith) q)) in grind (arith, ints))
+    (λ e. let more = ΣOne n b f i (omega arith) y (λ k m. u k (omega arith)) in let only = u n in grind (arith, ints))
     (cases_eq i n)
-  where
-    none : (k : ℕ) → k < n → i ≡ n → (v : Bool) → b k ≡ v → given v (f k) ≡ pos 0
-    none k m e true y = absurd (omega (arith, u k (omega arith) y))
-    none k m e false y = refl
-
-    last : i ≡ n → Σ< n (λ k. given (b k) (f k)) +ℤ given (b n) (f n) ≡ f i
-    last e =
-        let z = ΣZero n (λ k. given (b k) (f k)) (λ k m. none k m e (b k) refl) in
-        let w : given (b n) (f n) ≡ f i = rw (← e) (rw y) in
-        omega (arith, ints)
-
-    early : i < n → Σ< n (λ k. given (b k) (f k)) ≡ f i → (v : Bool) → b n ≡ v → (i ≡ n → ⊥) → Σ< n (λ k. given (b k) (f k)) +ℤ given v (f n) ≡ f i
-    early m z true y ne = absurd (ne (sym (u n (omega arith) y)))
-    early m z false y ne = omega (arith, ints)
 
 pub given_abs : (b : Bool) (z : ℤ) (B : ℕ) → nat_abs z ≤ B → nat_abs (given b z) ≤ B
 given_abs b z B h = grind (arith, ints)
-
-pub ΣNone : (n : ℕ) (b : ℕ → Bool) (f : ℕ → ℤ) → ((k : ℕ) → k < n → b k ≡ true → ⊥) → Σ< n (λ k. given (b k) (f k)) ≡ pos 0
-ΣNone n b f h = ΣZero n (λ k. given (b k) (f k)) (λ k m. let no = h k m in grind arith)
 
 pub ΣTelescope : (n : ℕ) (f : ℕ → ℤ) → Σ< n (λ k. f (suc k) -ℤ f k) ≡ f n -ℤ f 0
 ΣTelescope zero f = omega (arith, ints)
