@@ -63,24 +63,16 @@ pub enum KernelFault {
     Sum,
 }
 
-const DIVISOR: u8 = 11;
-
-const COUNT: u8 = 12;
-
-const TAP: u8 = 13;
-
-const SUM: u8 = 14;
-
 impl KernelFault {
-    // The fault's number.
+    // The fault's number: users know refusals by their listed numbers.
     pub fn number(&self) -> u8
         ensures { result ≡ (told self.now).number }
     {
         match self {
-            KernelFault::Divisor => DIVISOR,
-            KernelFault::Count => COUNT,
-            KernelFault::Tap(_) => TAP,
-            KernelFault::Sum => SUM,
+            KernelFault::Divisor => 11,
+            KernelFault::Count => 12,
+            KernelFault::Tap(_) => 13,
+            KernelFault::Sum => 14,
         }
     }
 }

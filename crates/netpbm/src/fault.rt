@@ -19,7 +19,7 @@ pub enum PageFault {
 }
 
 impl PageFault {
-    // The fault's number.
+    // The fault's number: users know refusals by their listed numbers.
     pub fn number(&self) -> u8
         ensures { result ≡ (told self.now).number }
     {

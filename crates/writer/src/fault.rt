@@ -11,15 +11,13 @@ pub enum WriteFault {
     Short,
 }
 
-const SHORT: u8 = 19;
-
 impl WriteFault {
-    // The fault's number.
+    // The fault's number: users know refusals by their listed numbers.
     pub fn number(&self) -> u8
         ensures { result ≡ fault_number self.now }
     {
         match self {
-            WriteFault::Short => SHORT,
+            WriteFault::Short => 19,
         }
     }
 }
