@@ -11,25 +11,23 @@ pub enum WriteFault {
     Short,
 }
 
-const SHORT: u8 = 19;
-
 impl WriteFault {
     // The fault's number.
     pub fn number(&self) -> u8
         ensures { result ≡ fault_number self.now }
     {
         match self {
-            WriteFault::Short => SHORT,
+            WriteFault::Short => 19,
         }
     }
 }
 
 impl fmt::Display for WriteFault {
-    ghost output = { λ _. Some (codes "the buffer is too short for the page") };
+    ghost output = { λ _. Some (codes "refusal 19: the buffer is too short for the page") };
 
     fn fmt<W: fmt::Write>(&self, f: &mut fmt::Formatter<W>) -> fmt::Result {
         match self {
-            WriteFault::Short => write!(f, "the buffer is too short for the page"),
+            WriteFault::Short => write!(f, "refusal 19: the buffer is too short for the page"),
         }
     }
 }
