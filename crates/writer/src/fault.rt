@@ -23,11 +23,11 @@ impl WriteFault {
 }
 
 impl fmt::Display for WriteFault {
-    ghost output = { λ _. Some (codes "the buffer is too short for the page") };
+    ghost output = { λ _. Some (codes "refusal 19: the buffer is too short for the page") };
 
     fn fmt<W: fmt::Write>(&self, f: &mut fmt::Formatter<W>) -> fmt::Result {
         match self {
-            WriteFault::Short => write!(f, "the buffer is too short for the page"),
+            WriteFault::Short => write!(f, "refusal 19: the buffer is too short for the page"),
         }
     }
 }
