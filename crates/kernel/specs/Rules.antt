@@ -51,9 +51,13 @@ abbrev pub first_bad : Tap → ℕ → List Tap → Option ℕ
 first_bad before i [] = None
 first_bad before i (t ∷ ts) = cond (fits t && rises before t) (first_bad t (suc i) ts) (Some i)
 
+-- the sum of a quantity over the taps
+abbrev pub over : (Tap → ℕ) → List Tap → ℕ
+over f ts = sum_by f ts
+
 -- W, the sum of the weights
 abbrev pub weights : List Tap → ℕ
-weights ts = sum_by (λ (t : Tap). t.weight) ts
+weights ts = over (λ t. t.weight) ts
 
 abbrev pub divisor_fits : ℕ → Bool
 divisor_fits d = nat_le 1 d && nat_le d most_divisor

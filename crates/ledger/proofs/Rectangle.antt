@@ -1,5 +1,4 @@
 -- The sum of D × (x - y) over a rectangle. Cell by cell it is (D - W) × e, plus what the cell sends less what it is sent, plus its rest less the rest it was handed. What is sent within the rectangle cancels: for each tap, errors moved by its columns and rows differ from those in place only near the sides. Rests telescope along each row.
-use Rattle.std.specs.List.{sum_by}
 use Rattle.std.proofs.Common.{◌≡◌, ℕ, zero, suc, ◌+◌, ◌-◌, ◌*◌, ◌<◌, ◌≤◌, Bool, true, false, cond, ltb, List, [], ◌∷◌, ℤ, pos, ◌+ℤ◌, ◌-ℤ◌, ◌*ℤ◌, neg_ℤ, nat_abs, refl, ap, ◌∙◌, mul-le-mul_left, arith}
 use borrow.Author.Differences.{ints}
 use Rattle.std.proofs.lemmas.Nat.{mod-mul-add}
@@ -9,7 +8,7 @@ use Rattle.ledger.specs.Sums.{Σ<, Σ∈, given}
 use Rattle.kernel.specs.declared.tap.Tap.{Tap}
 use Rattle.ledger.specs.Page.{Page, backward, cells, number, ahead}
 use Rattle.ledger.specs.Ledger.{Trace, in_hand, pending, quotient, wanted, used, Diffused}
-use Rattle.kernel.specs.Rules.{Shape, weights}
+use Rattle.kernel.specs.Rules.{Shape, over, weights}
 use Rattle.ledger.specs.Laws.{across, downward, Rectangle, inside, RectanglesWithin}
 use Rattle.ledger.proofs.Kernels.{Sound}
 use Rattle.ledger.proofs.Ring.{mul_sub, sub_mul, add_mul, abs_add, abs_sub}
@@ -81,7 +80,7 @@ less_taps (t ∷ ts) z g =
     rw (sum_by-cons (λ (t : Tap). t.weight) t ts) (omega (arith, ints, add_mul (pos t.weight) (pos (weights ts)) z, mul_sub (pos t.weight) z (g t), less_taps ts z g))
 
 all_taps_abs : (ts : List Tap) (g : Tap → ℤ) (h w E : ℕ) → ((t : Tap) → nat_abs (g t) ≤ 2 * t.down * (w * E) + h * (2 * nat_abs t.ahead * E)) →
-    nat_abs (Σ∈ ts (λ t. pos t.weight *ℤ g t)) ≤ 2 * E * (sum_by (λ (t : Tap). t.weight * nat_abs t.ahead) ts * h + sum_by (λ (t : Tap). t.weight * t.down) ts * w)
+    nat_abs (Σ∈ ts (λ t. pos t.weight *ℤ g t)) ≤ 2 * E * (over (λ t. t.weight * nat_abs t.ahead) ts * h + over (λ t. t.weight * t.down) ts * w)
 all_taps_abs [] g h w E b = omega arith
 all_taps_abs (t ∷ ts) g h w E b =
     let one = unsigned_abs-mul (pos t.weight) (g t) in

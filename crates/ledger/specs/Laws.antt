@@ -1,7 +1,7 @@
 -- The three laws of the ledger, for every page, order, kernel and ink set, and every list of tones taken.
-use Rattle.std.specs.Prelude.{◌≡◌, ℕ, suc, ◌+◌, ◌-◌, ◌*◌, ◌<◌, ◌≤◌, true, List, length, sum_by, ℤ, pos, ◌+ℤ◌, ◌-ℤ◌, ◌*ℤ◌, ◌≤ℤ◌, Some, None, slice_index_or, unsigned_abs}
+use Rattle.std.specs.Prelude.{◌≡◌, ℕ, suc, ◌+◌, ◌-◌, ◌*◌, ◌<◌, ◌≤◌, true, List, length, ℤ, pos, ◌+ℤ◌, ◌-ℤ◌, ◌*ℤ◌, ◌≤ℤ◌, Some, None, slice_index_or, unsigned_abs}
 use Rattle.kernel.specs.declared.tap.Tap.{Tap}
-use Rattle.kernel.specs.Rules.{Shape, weights, valid}
+use Rattle.kernel.specs.Rules.{Shape, over, weights, valid}
 use Rattle.ledger.specs.Sums.{Σ<, given}
 use Rattle.ledger.specs.Page.{Page, cells, number, aimed, waits, off}
 use Rattle.ledger.specs.Ledger.{Trace, lowest, highest, sent, ends_row, in_hand, sum, wanted, used, taken, laid, carried, edge, kernel, rounding, clipped}
@@ -35,10 +35,10 @@ pub record Fair (S : Setup) (xs : Tones) : Type 0 where
 
 -- H and V of a kernel
 abbrev pub across : Shape → ℕ
-across K = sum_by (λ (t : Tap). t.weight * unsigned_abs t.ahead) K.taps
+across K = over (λ t. t.weight * unsigned_abs t.ahead) K.taps
 
 abbrev pub downward : Shape → ℕ
-downward K = sum_by (λ (t : Tap). t.weight * t.down) K.taps
+downward K = over (λ t. t.weight * t.down) K.taps
 
 -- a rectangle of the page whose cells are all among the first n
 pub record Rectangle (p : Page) (n top left high wide : ℕ) : Type 0 where
