@@ -3,7 +3,8 @@ use netpbm::PageFault;
 use source::{Fault, Spot};
 use std::test::Fail;
 
-// A fault of a place outside the page, with the layer, the row and the column that it tells.
+// A fault of a place outside the page, with the layer, the row and the column that it tells. It is a macro
+// since the tables are constants, whose values cannot call a `const fn`.
 macro_rules! outside {
     ($layer:expr, $row:expr, $column:expr) => {
         source::Fault::Outside(source::Spot {
