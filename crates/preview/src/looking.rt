@@ -50,7 +50,7 @@ fn add_row<T: Tone, S: Source<T>>(
     Ok(())
 }
 
-// The fault of the first missing place of a row of the page.
+// The fault of the first missing place of a row of the page. Here and below the proof of a chain by `find_map` did not close.
 fn missing_in_row<T: Tone, S: Source<T>>(source: &S, row: usize) -> Option<Fault>
     requires { row < (S.Source.page source.now).height }
     ensures { heard result ≡ missing_of_row (S.Source.page source.now) row }

@@ -17,6 +17,7 @@ fn push_sample<T: Tone>(
 ) -> Result<(), AllocError>
     ensures { OnOk result (string_bytes text.new ≡ string_bytes text.old ++ sample_text T.Tone.count T.Tone.value (said answer.now) channel) }
 {
+    // a match, since both answers write text
     match answer {
         Ok(tone) => write!(text, "{:02x}", tone.channel(channel)),
         Err(_) => text.push_str("--"),

@@ -47,6 +47,7 @@ pub trait Tone: Sized + Copy {
     ghost gives: { (v : List ℕ) (i : ℕ) → i < count → get_or v i 0 ≤ 255 → value (made v) i ≡ get_or v i 0 };
 }
 
+// Each kind proves the laws for itself, by the same search; a macro may not write an impl.
 impl Tone for Grey {
     ghost count = { 1 };
 
