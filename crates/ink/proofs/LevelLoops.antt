@@ -1,6 +1,6 @@
 -- The steps of the loops over the channels of an ink.
-use Rattle.std.proofs.Common.{◌≡◌, ℕ, zero, suc, ◌-◌, ◌*◌, ◌/◌, ◌%◌, ◌^◌, ◌<◌, ◌≤◌, List, [], ◌∷◌, length, get_or, set, refl, sym, ap, ◌∙◌, ⊎_elim, arith}
-use Rattle.std.proofs.Math.Nat.{div-div-eq-div-mul, div-one, mod-eq-sub-div-mul, pow-le-pow_right, pow-suc, pow-zero}
+use Rattle.std.proofs.Common.{◌≡◌, ℕ, zero, suc, ◌-◌, ◌*◌, ◌/◌, ◌%◌, ◌^◌, ◌<◌, ◌≤◌, List, length, get_or, set, sym, ap, ◌∙◌, ⊎_elim, arith}
+use Rattle.std.proofs.Math.Nat.{div-div-eq-div-mul, mod-eq-sub-div-mul, pow-le-pow_right, pow-suc}
 use Rattle.std.proofs.lemmas.Bool.{cases_eq, cond_both, ltb-false, ltb-true}
 use Rattle.std.proofs.lemmas.List.{ext_get_or, get_or-set_other, get_or-set_same, length-set}
 use Rattle.ink.specs.LevelFacts.{Steps, even, ink_below}
@@ -22,24 +22,6 @@ pub record Filling (n c k i high : ℕ) (xs : List ℕ) : Type 0 where
   pub left : high ≡ k / n ^ (c - i)
   pub done : (j : ℕ) → i ≤ j → j < c → get_or xs j 0 ≡ level_in n c k j * gap_of n
   pub none : (j : ℕ) → c ≤ j → get_or xs j 0 ≡ 0
-
-pub fill_none : (n c k : ℕ) → 1 ≤ c → Filling n c k c k (0 ∷ 0 ∷ 0 ∷ [])
-fill_none n c k p =
-    let e : c - c ≡ 0 = omega arith in
-    record {
-      some = p;
-      most = omega arith;
-      long = refl;
-      left = sym (ap (λ x. k / n ^ x) e ∙ (ap (λ x. k / x) (pow-zero n) ∙ div-one k));
-      done = λ j q r. absurd (omega arith);
-      none = zeros;
-    }
-  where
-    zeros : (j : ℕ) → c ≤ j → ◌≡◌ {A = ℕ} (get_or (0 ∷ 0 ∷ 0 ∷ []) j 0) 0
-    zeros zero q = refl
-    zeros (suc zero) q = refl
-    zeros (suc (suc zero)) q = refl
-    zeros (suc (suc (suc j))) q = refl
 
 digit : (n c k i high : ℕ) → 1 < i → i ≤ c → high ≡ k / n ^ (c - i) → high - high / n * n ≡ level_in n c k (i - 1)
 digit n c k zero high p q e = absurd (omega arith)

@@ -113,7 +113,7 @@ same_ink : (n : ℕ) (f g : ℕ → ℕ) (c : ℕ) → ((i : ℕ) → i < c → 
 same_ink n f g zero e = refl
 same_ink n f g (suc c) e = ap (λ x. x * n + f c) (same_ink n f g c (λ i p. e i (omega arith))) ∙ ap (λ x. ink_of n g c * n + x) (e c (omega arith))
 
-module _ {T : Type 0} (count : ℕ) (value : T → ℕ → ℕ) (made : List ℕ → T) (kind : Kind count value made) (n : ℕ) (s : Steps count n)
+module _ {T : Type 0} {count : ℕ} {value : T → ℕ → ℕ} {made : List ℕ → T} (kind : Kind count value made) (n : ℕ) (s : Steps count n)
     (u : List ℤ) (j : ℕ) (p : j < n ^ count) where
   abbrev at : ℕ → ℕ
   at i = level (gap_of n) (get_or u i (pos 0))
@@ -126,12 +126,12 @@ module _ {T : Type 0} (count : ℕ) (value : T → ℕ → ℕ) (made : List ℕ
 
   value_chosen : (i : ℕ) → i < count → value chosen i ≡ at i * gap_of n
   value_chosen i q =
-      value_at count value made kind n s (levels_choice n count u) i (at i) q (level_in_ink n at (choice_below count value made kind n s u) count i q)
+      value_at kind n s (levels_choice n count u) i (at i) q (level_in_ink n at (choice_below kind n s u) count i q)
       (level_tone n (gap_of n) (even s) (get_or u i (pos 0)))
 
   value_other : (i : ℕ) → i < count → value other i ≡ level_in n count j i * gap_of n
   value_other i q =
-      value_at count value made kind n s j i (level_in n count j i) q refl
+      value_at kind n s j i (level_in n count j i) q refl
       (tone_below n (gap_of n) (even s) (level_in n count j i) (level_in_below n count j s.two p i q))
 
   -- where the other ink has another level, it is farther
@@ -167,8 +167,7 @@ module _ {T : Type 0} (count : ℕ) (value : T → ℕ → ℕ) (made : List ℕ
       (λ all. absurd (ne (sym (number_of_levels n count j s.two p) ∙ same_ink n (level_in n count j) at count all)))
       (λ lt. lt) (summed count (omega arith)).1
 
-pub levels_nearest : {T : Type 0} (count : ℕ) (value : T → ℕ → ℕ) (made : List ℕ → T) (kind : Kind count value made) (n : ℕ) (s : Steps count n)
-    (u : List ℤ) → Nearest (levels count value made kind n s) u (levels_choice n count u)
-levels_nearest count value made kind n s u =
-    alone (levels count value made kind n s) u (levels_choice n count u) ((levels count value made kind n s).below u)
-    (λ j p ne. farther_ink count value made kind n s u j p ne)
+pub levels_nearest : {T : Type 0} {count : ℕ} {value : T → ℕ → ℕ} {made : List ℕ → T} (kind : Kind count value made) (n : ℕ) (s : Steps count n)
+    (u : List ℤ) → Nearest (levels kind n s) u (levels_choice n count u)
+levels_nearest {count = count} kind n s u =
+    alone (levels kind n s) u (levels_choice n count u) ((levels kind n s).below u) (λ j p ne. farther_ink kind n s u j p ne)

@@ -5,9 +5,10 @@ use Rattle.std.proofs.Math.Nat.{div-div-eq-div-mul, div-one, pow-succ', pow-zero
 use Rattle.std.proofs.lemmas.Nat.{div-add-mod', div_below, div-mul-add, le-div, mod_below, mod-mul-add, mul-add-lt}
 use Rattle.std.proofs.lemmas.Int.{ints}
 use Rattle.std.proofs.lemmas.Bool.{and_parts, cases_eq, cases_lt, cond-true, eqb-true, leb-true, lt-ltb, or_cases}
+use Rattle.std.specs.List.{list_all, list_any}
 use Rattle.tone.specs.Channels.{channels_of}
 use Rattle.ink.specs.Inks.{Around, Within}
-use Rattle.ink.specs.LevelRules.{among, colour_steps, cut_to_byte, gap_of, grey_steps, ink_of, level, level_in, level_values, levels_choice}
+use Rattle.ink.specs.LevelRules.{colour_steps, cut_to_byte, gap_of, grey_steps, ink_of, level, level_in, level_values, levels_choice}
 
 -- What is asked of a kind of tone: three channels at most, and a tone has the channel values that it is made of.
 pub record Kind {T : Type 0} (count : ℕ) (value : T → ℕ → ℕ) (made : List ℕ → T) : Type 0 where
@@ -134,7 +135,7 @@ channels_at c f (suc zero) p q = cond-true _ (f 1) 0 (lt-ltb 1 c p)
 channels_at c f (suc (suc zero)) p q = cond-true _ (f 2) 0 (lt-ltb 2 c p)
 channels_at c f (suc (suc (suc i))) p q = absurd (omega arith)
 
-module _ {T : Type 0} (count : ℕ) (value : T → ℕ → ℕ) (made : List ℕ → T) (kind : Kind count value made) (n : ℕ) (s : Steps count n) where
+module _ {T : Type 0} {count : ℕ} {value : T → ℕ → ℕ} {made : List ℕ → T} (kind : Kind count value made) (n : ℕ) (s : Steps count n) where
   -- the value of a channel, where the ink has the level x there
   pub value_at : (k i x : ℕ) → i < count → level_in n count k i ≡ x → x * gap_of n ≤ 255 → value (made (level_values n count k)) i ≡ x * gap_of n
   value_at k i x p e small =
@@ -159,15 +160,11 @@ some_is a b e = cc
 
 -- What holds of each number of steps in the lists, computed there.
 
-abbrev every : (ℕ → Bool) → List ℕ → Bool
-every f [] = true
-every f (x ∷ xs) = f x && every f xs
-
-listed : (f : ℕ → Bool) (n : ℕ) (xs : List ℕ) → every f xs ≡ true → among n xs ≡ true → f n ≡ true
-listed f n [] a e = let z : ◌≡◌ {A = ℕ} 0 1 = cc in absurd (omega arith)
+listed : (f : ℕ → Bool) (n : ℕ) (xs : List ℕ) → list_all f xs ≡ true → list_any (λ x. n == x) xs ≡ true → f n ≡ true
+listed f n [] a e = cc
 listed f n (x ∷ xs) a e =
-    let p = and_parts (f x) (every f xs) a in
-    ⊎_elim (λ h. ap f (eqb-true n x h) ∙ p.0) (λ h. listed f n xs p.1 h) (or_cases (n == x) (among n xs) e)
+    let p = and_parts (f x) (list_all f xs) a in
+    ⊎_elim (λ h. ap f (eqb-true n x h) ∙ p.0) (λ h. listed f n xs p.1 h) (or_cases (n == x) (list_any (λ x. n == x) xs) e)
 
 abbrev steps_test : ℕ → ℕ → Bool
 steps_test count n = nat_le 2 n && (nat_le (n ^ count) 256 && (n - 1) * gap_of n == 255)

@@ -1,17 +1,14 @@
 -- Sets of levels: n equal steps from 0 to 255 in each channel. Which inks there are, and which one is chosen.
-use Rattle.std.specs.Prelude.{ℕ, zero, suc, ◌+◌, ◌-◌, ◌*◌, ◌/◌, ◌%◌, ◌^◌, min, Bool, false, ◌||◌, List, [], ◌∷◌, ℤ, pos, negsuc, Some, Option, ◌==◌, slice_index_or}
+use Rattle.std.specs.Prelude.{ℕ, zero, suc, ◌+◌, ◌-◌, ◌*◌, ◌/◌, ◌%◌, ◌^◌, min, Bool, List, [], ◌∷◌, ℤ, pos, negsuc, Some, Option, ◌==◌, slice_index_or}
+use Rattle.std.specs.List.{list_any}
 use Rattle.tone.specs.Channels.{channels_of}
 
 -- the numbers of steps that there are sets for
-abbrev pub among : ℕ → List ℕ → Bool
-among n [] = false
-among n (x ∷ xs) = n == x || among n xs
-
 abbrev pub grey_steps : ℕ → Bool
-grey_steps n = among n (2 ∷ 4 ∷ 6 ∷ 16 ∷ 18 ∷ 52 ∷ 86 ∷ 256 ∷ [])
+grey_steps n = list_any (λ x. n == x) (2 ∷ 4 ∷ 6 ∷ 16 ∷ 18 ∷ 52 ∷ 86 ∷ 256 ∷ [])
 
 abbrev pub colour_steps : ℕ → Bool
-colour_steps n = among n (2 ∷ 4 ∷ 6 ∷ [])
+colour_steps n = list_any (λ x. n == x) (2 ∷ 4 ∷ 6 ∷ [])
 
 -- a value cut to 0..255
 abbrev pub cut_to_byte : ℤ → ℕ

@@ -27,7 +27,7 @@ nearest_below far [] = omega arith
 nearest_below far (t ∷ ts) = omega (arith, seek_below far 0 (far t) 1 ts (omega arith))
 
 pub never : (e : ℕ) → ◌≡◌ {A = Option ℕ} None (Some e) → ⊥
-never e p = let z : ◌≡◌ {A = ℕ} 0 1 = cc in omega arith
+never e p = cc
 
 -- the set of at most 256 tones; an empty list acts as one ink whose tone is made of zeros
 abbrev pub ink_list : {T : Type 0} (count : ℕ) (value : T → ℕ → ℕ) (made : List ℕ → T) (ts : List T) → length ts ≤ 256 → Inks T

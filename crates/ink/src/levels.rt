@@ -16,7 +16,7 @@ pub use kinds::Levelled;
 pub struct Levels<T: Levelled> {
     steps: u16,
     gap: u16,
-    kind: PhantomData<T>,
+    of: PhantomData<T>,
     ghost listed: { T.Levelled.lists steps ≡ true },
     ghost equal: { gap ≡ gap_of steps },
     // what the laws of the kind say, kept here since the meaning of a set cannot name a law
@@ -37,12 +37,12 @@ impl<T: Levelled> Levels<T> {
         Levels {
             steps,
             gap: 255 / (steps - 1),
-            kind: PhantomData,
+            of: PhantomData,
         }
     }
 }
 
-// Not derived: a struct with a ghost field and a parameter has no derived `Clone`.
+// Not derived: `Clone` cannot be derived for a struct with a parameter and a ghost field.
 impl<T: Levelled> Clone for Levels<T> {
     ghost is_clone = { λ s t. t ≡ s };
 

@@ -1,7 +1,8 @@
 // Ink sets: the inks that a page may be printed with, and which of them is chosen for a tone.
 //
-// `InkSet` is the interface that jobs and the page writer are written against. `GreyLevels` and `ColourLevels` have
-// equal steps in each channel, `InkList` has any tones that the caller lists.
+// `InkSet` is the interface that jobs and the page writer are written against. `Levels<T>` has equal steps in each
+// channel, for each kind of tone that is `Levelled`; `GreyLevels` and `ColourLevels` are its names for grey and colour.
+// `InkList` has any tones that the caller lists.
 #![tactic(auto)]
 
 pub mod levels;

@@ -6,7 +6,7 @@ ghost use Rattle.ink.specs.Values.{Limited};
 
 use tone::Tone;
 
-// How much a channel counts.
+// How much a channel counts. All count alike; other weights would be written here.
 fn weight(channel: usize) -> u32
     ensures { result ≡ channel_weight channel }
 {
@@ -19,8 +19,9 @@ pub(crate) fn distance_to<T: Tone>(wanted: &[i32; 3], ink: T) -> u32
     ensures { result ≡ distance T.Tone.count T.Tone.value wanted.now ink }
 {
     let mut sum = 0;
+    // the number of the channel goes into three calls, so it is counted; the square of `abs_diff` is slower
     for i in 0..T::channels() {
-        let difference = (wanted[i] - ink.channel(i) as i32).unsigned_abs();
+        let difference = (wanted[i] - i32::from(ink.channel(i))).unsigned_abs();
         sum += weight(i) * (difference * difference);
     }
     sum
@@ -31,11 +32,12 @@ pub(crate) fn nearest_ink<T: Tone>(wanted: &[i32; 3], inks: &[T]) -> u16
     requires { Limited wanted.now × (length inks.now ≤ 256) }
     ensures { result ≡ nearest_of (distance T.Tone.count T.Tone.value wanted.now) inks.now }
 {
-    if inks.len() == 0 {
+    let Some(first) = inks.first() else {
         return 0;
-    }
+    };
+    // one pass with the nearest so far, as the choice is defined
     let mut best = 0;
-    let mut least = distance_to(wanted, inks[0]);
+    let mut least = distance_to(wanted, *first);
     for (i, ink) in inks.iter().enumerate() {
         let distance = distance_to(wanted, *ink);
         if distance < least {

@@ -1,6 +1,7 @@
 // Choices, tones and spreads of small sets.
-ghost use Rattle.std.specs.Prelude.{◌≡◌};
+ghost use Rattle.std.specs.Prelude.{◌≡◌, if◌then◌else◌};
 ghost use Rattle.ink.specs.Inks.{ink_tone};
+ghost use Rattle.ink.specs.LevelRules.{colour_steps, grey_steps};
 ghost use Rattle.ink.specs.Levels.{colour_levels, grey_levels};
 ghost use Rattle.ink.specs.Nearness.{Nearest};
 ghost use Rattle.ink.specs.Values.{values};
@@ -9,6 +10,18 @@ use crate::{ColourLevels, GreyLevels, InkList, InkSet};
 use tone::{Colour, Grey, Tone};
 
 // The calls at the two kinds of tone, in the words for each kind.
+fn new_grey(n: u16) -> GreyLevels
+    ensures { result.steps ≡ (if grey_steps n then n else 2) }
+{
+    GreyLevels::new(n)
+}
+
+fn new_colour(n: u16) -> ColourLevels
+    ensures { result.steps ≡ (if colour_steps n then n else 2) }
+{
+    ColourLevels::new(n)
+}
+
 fn choose_grey(inks: &GreyLevels, wanted: [i32; 3]) -> u16
     ensures answer { result ≡ (grey_levels inks.now.steps inks.now.listed).choice (values 1 wanted) }
     ensures nearest { Nearest (grey_levels inks.now.steps inks.now.listed) (values 1 wanted) result }
@@ -54,7 +67,7 @@ fn grey_levels_answer(rt: HostRuntime) {
     assert_eq!(rt; grey_tone(&six, 5).light, 255);
     assert_eq!(rt; six.tone(6).light, 0);
     assert_eq!(rt; six.spread(), Some(25));
-    assert_eq!(rt; GreyLevels::new(3).count(), 2);
+    assert_eq!(rt; new_grey(3).count(), 2);
     assert_eq!(rt; GreyLevels::new(256).spread(), Some(0));
 }
 
@@ -66,7 +79,7 @@ fn colour_levels_take_the_nearest(rt: HostRuntime) {
     assert_eq!(rt; colour_tone(&two, 5).channel(1), 0);
     assert_eq!(rt; two.tone(5).channel(2), 255);
     assert_eq!(rt; two.tone(8).channel(0), 0);
-    assert_eq!(rt; ColourLevels::new(16).count(), 8);
+    assert_eq!(rt; new_colour(16).count(), 8);
 }
 
 #[test]

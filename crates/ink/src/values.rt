@@ -11,18 +11,12 @@ pub const HIGHEST: i32 = 510;
 pub fn limit(value: i32) -> i32
     ensures { result ≡ limited value }
 {
-    if value < LOWEST {
-        LOWEST
-    } else if value > HIGHEST {
-        HIGHEST
-    } else {
-        value
-    }
+    value.clamp(LOWEST, HIGHEST)
 }
 
 // All three values limited.
 pub fn limit_all(values: [i32; 3]) -> [i32; 3]
     ensures { result ≡ map limited values }
 {
-    [limit(values[0]), limit(values[1]), limit(values[2])]
+    values.map(limit)
 }

@@ -11,7 +11,7 @@ use crate::sets::InkSet;
 use crate::steps::{nearest_level, quotient};
 
 impl<T: Levelled> Levels<T> {
-    // The channel values of an ink; the places past the last channel hold 0.
+    // The channel values of an ink, from the last channel back; the places past the last channel hold 0.
     fn channel_values(&self, ink: u16) -> [u8; 3]
         requires { ink < self.now.steps ^ T.Tone.count }
         ensures { result ≡ level_values self.now.steps T.Tone.count ink }
@@ -29,7 +29,7 @@ impl<T: Levelled> Levels<T> {
 }
 
 impl<T: Levelled> InkSet<T> for Levels<T> {
-    ghost meaning = { λ s. levels T.Tone.count T.Tone.value T.Tone.made s.sound s.steps s.even };
+    ghost meaning = { λ s. levels s.sound s.steps s.even };
 
     ghost kind = { λ s. (refl, refl) };
 
@@ -43,10 +43,8 @@ impl<T: Levelled> InkSet<T> for Levels<T> {
     }
 
     fn choose(&self, wanted: [i32; 3]) -> u16
-        ensures answer { result ≡ (levels T.Tone.count T.Tone.value T.Tone.made self.now.sound self.now.steps self.now.even).choice
-            (values T.Tone.count wanted) }
-        ensures nearest { Nearest (levels T.Tone.count T.Tone.value T.Tone.made self.now.sound self.now.steps self.now.even)
-            (values T.Tone.count wanted) result }
+        ensures answer { result ≡ (levels self.now.sound self.now.steps self.now.even).choice (values T.Tone.count wanted) }
+        ensures nearest { Nearest (levels self.now.sound self.now.steps self.now.even) (values T.Tone.count wanted) result }
     {
         let mut ink = 0;
         for value in &wanted[..T::channels()] {

@@ -15,12 +15,9 @@ impl<'a, T> InkList<'a, T> {
     pub fn new(inks: &'a [T]) -> InkList<'a, T>
         ensures { result.inks.now ≡ take 256 inks.now }
     {
-        if inks.len() > 256 {
-            return InkList {
-                inks: &inks[0..256],
-            };
+        InkList {
+            inks: &inks[..inks.len().min(256)],
         }
-        InkList { inks }
     }
 }
 
@@ -30,23 +27,15 @@ impl<T: Tone> InkSet<T> for InkList<'_, T> {
     ghost kind = { λ s. (refl, refl) };
 
     fn count(&self) -> u16 {
-        if self.inks.len() == 0 {
-            1
-        } else {
-            self.inks.len() as u16
-        }
+        self.inks.len().max(1) as u16
     }
 
     fn tone(&self, number: u16) -> T {
-        if self.inks.len() == 0 {
-            return T::build([0, 0, 0]);
-        }
-        let k = if (number as usize) < self.inks.len() {
-            number as usize
-        } else {
-            0
-        };
-        self.inks[k]
+        self.inks
+            .get(usize::from(number))
+            .or(self.inks.first())
+            .copied()
+            .unwrap_or_else(|| T::build([0; 3]))
     }
 
     fn choose(&self, wanted: [i32; 3]) -> u16

@@ -1,9 +1,6 @@
 use Rattle.std.proofs.Common.{◌*◌, ap, arith}
-use Rattle.ink.proofs.LevelLoops.{fill_all, fill_more, fill_none, left_byte}
+use Rattle.ink.proofs.LevelLoops.{fill_all, fill_more, left_byte}
 use Rattle.ink.proofs.levels.Levels.channel_values.Goals as goal
-
-pub loop-i-init : goal.loop-i-init
-loop-i-init g c = rw c.channels-i.ensures (fill_none c.args.self.now.steps g.T.Tone.count c.args.ink g.met.T.Tone.some)
 
 pub loop-i-preserved : goal.loop-i-preserved
 loop-i-preserved g c =

@@ -17,7 +17,7 @@ overflow_mul-ink g c =
     omega (
       arith,
       ap (λ x. x * s.steps) c.loop-value.invariant,
-      so_far s.even (λ i. level (gap_of s.steps) (get_or u i (pos 0))) (choice_below g.T.Tone.count g.T.Tone.value g.T.Tone.made s.sound s.steps s.even u) c.loop-value.value-index within,
+      so_far s.even (λ i. level (gap_of s.steps) (get_or u i (pos 0))) (choice_below s.sound s.steps s.even u) c.loop-value.value-index within,
     )
 
 -- the number with one more channel
@@ -47,7 +47,7 @@ overflow_add-ink g c =
     omega (
       arith,
       next g c,
-      so_far s.even (λ i. level (gap_of s.steps) (get_or u i (pos 0))) (choice_below g.T.Tone.count g.T.Tone.value g.T.Tone.made s.sound s.steps s.even u) c.loop-value.value-index within,
+      so_far s.even (λ i. level (gap_of s.steps) (get_or u i (pos 0))) (choice_below s.sound s.steps s.even u) c.loop-value.value-index within,
     )
 
 pub loop-value-preserved : goal.loop-value-preserved
@@ -63,4 +63,4 @@ returns g c =
     let all : c.loop-value.value-index ≡ count = omega (arith, length-take c.channels.result u, c.channels.ensures, g.met.T.Tone.few) in
     let e : c.loop-value.ink ≡ levels_choice n count (values count u) =
     c.loop-value.invariant ∙ ap (λ i. ink_of n (λ j. level (gap_of n) (get_or (values count u) j (pos 0))) i) all in
-    record { answer = e; nearest = rw e (levels_nearest count g.T.Tone.value g.T.Tone.made s.sound n s.even (values count u)) }
+    record { answer = e; nearest = rw e (levels_nearest s.sound n s.even (values count u)) }
