@@ -18,6 +18,7 @@ impl<T: Levelled> Levels<T> {
     {
         let mut values = [0; 3];
         let mut high = ink;
+        // counted, since a proof knows nothing of what is written through `iter_mut().rev()`
         for i in (1..T::channels()).rev() {
             let rest = high;
             high = quotient(rest, self.steps);
