@@ -1,5 +1,6 @@
 // What the stages give.
-ghost use Rattle.std.specs.Prelude.{◌≡◌};
+ghost use Rattle.std.specs.Prelude.{◌≡◌, Some};
+ghost use Rattle.demo.specs.Stops.{stopped_text};
 ghost use Rattle.demo.specs.declared.parts.Stopped.TheVariants.{NoMemory, NoPage, Unwritten};
 
 use netpbm::PageFault;
@@ -30,6 +31,8 @@ pub enum Stopped {
 }
 
 impl fmt::Display for Stopped {
+    ghost output = { λ s. Some (stopped_text s) };
+
     fn fmt<W: fmt::Write>(&self, f: &mut fmt::Formatter<W>) -> fmt::Result {
         match self {
             Stopped::NoPage(fault) => write!(f, "no page: fault {fault}"),

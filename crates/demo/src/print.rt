@@ -20,6 +20,7 @@ fn wanted<T: Tone>(tone: &T) -> [i32; 3]
 }
 
 // The ink for a place of the page; ink 0 where the place is missing.
+// Source and inks stay two arguments: a struct of the two would only be taken apart in each clause.
 fn ink_for<T: Tone, S: Source<T>, I: InkSet<T>>(
     source: &S,
     inks: &I,

@@ -19,7 +19,7 @@ pub(crate) fn distance_to<T: Tone>(wanted: &[i32; 3], ink: T) -> u32
     ensures { result ≡ distance T.Tone.count T.Tone.value wanted.now ink }
 {
     let mut sum = 0;
-    // the number of the channel goes into three calls, so it is counted; the square of `abs_diff` is slower
+    // counted: the number of the channel goes into three calls, in a chain as well; the square of `abs_diff` is slower
     for i in 0..T::channels() {
         let difference = (wanted[i] - i32::from(ink.channel(i))).unsigned_abs();
         sum += weight(i) * (difference * difference);
@@ -35,7 +35,7 @@ pub(crate) fn nearest_ink<T: Tone>(wanted: &[i32; 3], inks: &[T]) -> u16
     let Some(first) = inks.first() else {
         return 0;
     };
-    // one pass with the nearest so far, as the choice is defined
+    // a rule of the project: one pass from the first ink to the last, with the nearest so far
     let mut best = 0;
     let mut least = distance_to(wanted, *first);
     for (i, ink) in inks.iter().enumerate() {

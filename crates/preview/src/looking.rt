@@ -50,7 +50,8 @@ fn add_row<T: Tone, S: Source<T>>(
     Ok(())
 }
 
-// The fault of the first missing place of a row of the page. Here and below the proof of a chain by `find_map` did not close.
+// The fault of the first missing place of a row of the page. Here and below a chain by
+// `find_map` was tried, and its proof did not close.
 fn missing_in_row<T: Tone, S: Source<T>>(source: &S, row: usize) -> Option<Fault>
     requires { row < (S.Source.page source.now).height }
     ensures { heard result ≡ missing_of_row (S.Source.page source.now) row }

@@ -32,8 +32,9 @@ const FILES: [&str; 14] = [
 fn show<T: Tone, S: Source<T>>(rt: &HostRuntime, kind: &str, page: &S) -> anyhow::Result<()> {
     let width = page.width();
     let height = page.height();
+    println!(rt; "{kind}, {width} by {height}")?;
     let text = page_text::<T, S>(rt.alloc(), page)?;
-    print!(rt; "{kind}, {width} by {height}\n{text}")?;
+    print!(rt; "{text}")?;
     Ok(())
 }
 

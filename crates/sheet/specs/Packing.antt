@@ -23,7 +23,7 @@ pub record PackingLaws (p : PackingMeaning) : Type 0 where
   -- a byte of a row holds the inks of its columns
   pub holds : (width : ℕ) (ink : ℕ → ℕ → ℕ) (row column : ℕ) → column < width → ink row column < p.limit
       → p.ink_in (p.row_byte width ink row (p.byte_of column)) column ≡ ink row column
-  -- and hangs on no other ink
+  -- and depends on no other ink
   pub local : (width : ℕ) (ink other : ℕ → ℕ → ℕ) (row j : ℕ) → j < p.stride width
       → ((column : ℕ) → column < width → p.byte_of column ≡ j → ink row column ≡ other row column)
       → p.row_byte width ink row j ≡ p.row_byte width other row j

@@ -12,7 +12,7 @@ pub struct Bits;
 pub fn row_bytes(width: u16) -> usize
     ensures { result ≡ stride width }
 {
-    (width as usize).div_ceil(8)
+    usize::from(width).div_ceil(8)
 }
 
 impl Packing for Bits {
@@ -46,7 +46,7 @@ impl Packing for Bits {
     }
 
     fn blank_byte(width: u16, j: usize) -> u8 {
-        match (width as usize).saturating_sub(j.saturating_mul(8)) {
+        match usize::from(width).saturating_sub(j.saturating_mul(8)) {
             0 => 0,
             1 => 0b1000_0000,
             2 => 0b1100_0000,

@@ -16,7 +16,7 @@ impl Packing for Bytes {
     }
 
     fn stride(width: u16) -> usize {
-        width as usize
+        usize::from(width)
     }
 
     fn byte_of(column: usize) -> usize {

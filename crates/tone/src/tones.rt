@@ -29,6 +29,7 @@ pub trait Tone: Sized + Copy {
     fn values(&self) -> [u8; 3]
         ensures { result ≡ channels_of count (value self.now) }
     {
+        // written out where a tone is built, too: a public function over a closure would ask something of its caller
         array::from_fn(|i| {
             if i < Self::channels() {
                 self.channel(i)

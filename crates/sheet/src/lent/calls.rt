@@ -43,7 +43,7 @@ impl<'a, P: Packing> LentSheet<'a, P> {
             (drop (P.meaning.stride result.width * result.height) memory.old) }
         ensures lent { result.memory.ghost_name ≡ memory.entry.ghost_name }
     {
-        let bytes = P::stride(width) * height as usize;
+        let bytes = P::stride(width) * usize::from(height);
         if !can_be_made(width, height, bytes, memory.len()) {
             return LentSheet {
                 memory,
@@ -77,7 +77,7 @@ impl<'a, P: Packing> LentSheet<'a, P> {
             (λ e. (e ≡ SheetFault.OffSheet) × ((row < self.now.height) → (column < self.now.width) → ⊥)) }
         ensures inside { IfOk result (λ at. at < length self.now.memory.now) }
     {
-        if row >= self.height as usize || column >= self.width as usize {
+        if row >= usize::from(self.height) || column >= usize::from(self.width) {
             return Err(SheetFault::OffSheet);
         }
         Ok(row * P::stride(self.width) + P::byte_of(column))

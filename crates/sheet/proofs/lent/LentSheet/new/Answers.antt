@@ -8,7 +8,7 @@ use Rattle.sheet.proofs.lent.LentSheet.new.Goals.{After-blank_rows}
 
 -- the memory, with its rows blank
 blanked : (g : Over) (c : After-blank_rows g) → let p = g.P.Packing.meaning in
-    c.blank_rows.new.rows ++ drop (c.stride.result * c.args.height) c.args.memory.now
+    c.blank_rows.new.rows ++ drop (c.stride.result * c.from.result) c.args.memory.now
     ≡ lent_memory p c.args.width c.args.height blank (drop (p.stride c.args.width * c.args.height) c.args.memory.now)
 blanked g c = search rules
 
@@ -26,8 +26,9 @@ returns-clause-means g c =
     let laws = g.met.P.Packing.laws in
     let w = c.args.width in
     let h = c.args.height in
-    let can : fits w h (p.stride w * h) (length c.args.memory.now) ≡ true =
-    rw (sym c.stride.ensures) (sym c.can_be_made.ensures ∙ c.if-not-can_be_made.false) in
+    let made : fits w h (c.stride.result * c.from.result) (length c.args.memory.now) ≡ true =
+    sym c.can_be_made.ensures ∙ c.if-not-can_be_made.false in
+    let can : fits w h (p.stride w * h) (length c.args.memory.now) ≡ true = rw (c.stride.ensures, c.from.ensures) at made in
     rw can (record {
       as_wide = refl;
       as_high = refl;
