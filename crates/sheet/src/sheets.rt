@@ -24,7 +24,7 @@ pub trait Sheet {
     fn limit(&self) -> u16
         ensures { result ≡ (meaning self.now).limit };
 
-    // The ink number at a place.
+    // The ink number at a place. Row and column stay two numbers, as in a source: they come from loops of their own.
     fn ink_at(&self, row: usize, column: usize) -> Result<u16, SheetFault>
         ensures { numbered result ≡ asking (meaning self.now) row column };
 
