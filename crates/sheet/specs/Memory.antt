@@ -32,9 +32,12 @@ byte_packing = record {
   row_byte = λ width ink row j. ink row j;
 }
 
--- the memory and the meaning of a byte sheet
+-- the memory, the inks and the meaning of a byte sheet
 abbrev pub byte_memory : ℕ → ℕ → (ℕ → ℕ → ℕ) → List ℕ → List ℕ
 byte_memory = lent_memory byte_packing
+
+abbrev pub byte_ink : List ℕ → ℕ → ℕ → ℕ → ℕ
+byte_ink = lent_ink byte_packing
 
 abbrev pub byte_meaning : List ℕ → ℕ → ℕ → SheetMeaning
 byte_meaning = lent_meaning byte_packing
@@ -70,9 +73,12 @@ bit_packing = record {
   row_byte = byte_of_row;
 }
 
--- the memory and the meaning of a bit sheet
+-- the memory, the inks and the meaning of a bit sheet
 abbrev pub bit_memory : ℕ → ℕ → (ℕ → ℕ → ℕ) → List ℕ → List ℕ
 bit_memory = lent_memory bit_packing
+
+abbrev pub bit_ink : List ℕ → ℕ → ℕ → ℕ → ℕ
+bit_ink = lent_ink bit_packing
 
 abbrev pub bit_meaning : List ℕ → ℕ → ℕ → SheetMeaning
 bit_meaning = lent_meaning bit_packing
