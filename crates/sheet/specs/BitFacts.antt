@@ -1,19 +1,23 @@
 -- The laws of packed bits.
-use Rattle.std.specs.Prelude.{◌≡◌, ℕ, zero, suc, ◌+◌, ◌-◌, ◌*◌, ◌/◌, ◌%◌, ◌<◌, ◌≤◌}
-use Rattle.std.proofs.Common.{sym, ◌∙◌, add-zero, arith}
-use Rattle.std.proofs.lemmas.Bool.Decides.{nat_tests}
+use Rattle.std.specs.Prelude.{◌≡◌, ℕ, zero, suc, ◌+◌, ◌-◌, ◌*◌, ◌/◌, ◌%◌, ◌<◌, ◌≤◌, cond, ◌&&◌, ◌==◌}
+use Rattle.std.proofs.Common.{sym, refl, ap, ◌∙◌, ⊎_elim, ltb, add-zero, arith}
+use Rattle.std.proofs.lemmas.Bool.{cases_lt, cond_both, eqb-false, eqb-true, le-ltb, lt-ltb}
 use Rattle.std.proofs.lemmas.Nat.Bits.{same_from_bits_below}
 use Rattle.sheet.specs.Memory.{bit, bit_of_place, bit_packing, byte_of_row}
 use Rattle.sheet.specs.Packing.{PackingLaws}
 
 place_small : (w r c : ℕ) (f : ℕ → ℕ → ℕ) → bit_of_place w f r c ≤ 1
-place_small w r c f = grind (arith, nat_tests)
+place_small w r c f = cond_both (ltb c w && f r c == 0) 1 0 (λ x. x ≤ 1) (λ e. omega arith) (λ e. omega arith)
 
 place_same : (w r c : ℕ) (f g : ℕ → ℕ → ℕ) → (c < w → f r c ≡ g r c) → bit_of_place w f r c ≡ bit_of_place w g r c
-place_same w r c f g e = grind (arith, nat_tests)
+place_same w r c f g e =
+    ⊎_elim (λ l. ap (λ x. cond (ltb c w && x == 0) 1 0) (e l)) (λ h. rw (le-ltb c w h) refl) (cases_lt c w)
 
 place_is : (w r c : ℕ) (f : ℕ → ℕ → ℕ) → c < w → f r c < 2 → 1 - bit_of_place w f r c ≡ f r c
-place_is w r c f l s = grind (arith, nat_tests)
+place_is w r c f l s =
+    rw (lt-ltb c w l)
+    (cond_both (f r c == 0) 1 0 (λ x. 1 - x ≡ f r c)
+    (λ e. let z = eqb-true (f r c) 0 e in omega (arith, z)) (λ e. let z = eqb-false (f r c) 0 e in omega (arith, s)))
 
 -- the bits of a byte of a row
 module _ (w r j : ℕ) (f : ℕ → ℕ → ℕ) where
