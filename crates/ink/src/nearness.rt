@@ -41,6 +41,7 @@ pub(crate) fn nearest_ink<T: Tone>(wanted: &[i32; 3], inks: &[T]) -> u16
     for (i, ink) in inks.iter().enumerate() {
         let distance = distance_to(wanted, *ink);
         if distance < least {
+            // below 256
             best = i as u16;
             least = distance;
         }

@@ -28,6 +28,7 @@ pub(crate) fn nearest_level(value: i32, gap: u16) -> u16
     requires { (1 ≤ gap) × (gap ≤ 255) }
     ensures { result ≡ level gap value }
 {
+    // a byte after the clamp
     let byte = value.clamp(0, 255) as u16;
     quotient(byte + gap / 2, gap)
 }

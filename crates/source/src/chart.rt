@@ -36,6 +36,7 @@ fn sample(width: u16, column: usize) -> u8
     if width <= 1 {
         0
     } else {
+        // at most 255
         (255 * column / (usize::from(width) - 1)) as u8
     }
 }

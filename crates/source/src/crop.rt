@@ -34,6 +34,7 @@ impl<S> Crop<S> {
 fn cut(wanted: usize, from: usize, length: u16) -> u16
     ensures { result ≡ min wanted (length - from) }
 {
+    // at most `length`
     wanted.min(usize::from(length).saturating_sub(from)) as u16
 }
 

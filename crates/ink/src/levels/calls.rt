@@ -18,7 +18,7 @@ impl<T: Levelled> Levels<T> {
     {
         let mut values = [0; 3];
         let mut high = ink;
-        // counted, since a proof knows nothing of what is written through `iter_mut().rev()`
+        // counted: of what is written through `iter_mut().rev()`, which was tried, a proof knows nothing; levels are bytes
         for i in (1..T::channels()).rev() {
             let rest = high;
             high = quotient(rest, self.steps);
@@ -35,6 +35,7 @@ impl<T: Levelled> InkSet<T> for Levels<T> {
     ghost kind = { λ s. (refl, refl) };
 
     fn count(&self) -> u16 {
+        // at most 3
         self.steps.pow(T::channels() as u32)
     }
 
@@ -55,6 +56,7 @@ impl<T: Levelled> InkSet<T> for Levels<T> {
     }
 
     fn spread(&self) -> Option<u8> {
+        // at most 127
         Some((self.gap / 2) as u8)
     }
 }

@@ -27,6 +27,7 @@ impl<T: Tone> InkSet<T> for InkList<'_, T> {
     ghost kind = { λ s. (refl, refl) };
 
     fn count(&self) -> u16 {
+        // at most 256
         self.inks.len().max(1) as u16
     }
 

@@ -115,6 +115,7 @@ impl<P: Packing> Sheet for LentSheet<'_, P> {
         if number >= P::limit() {
             return Err(SheetFault::OverLimit);
         }
+        // below the limit, so a byte
         self.memory[at] = P::with_ink(self.memory[at], column, number as u8);
         Ok(())
     }
