@@ -62,10 +62,7 @@ fn print_written<T: PageTone>(rt: &HostRuntime, page: &[u8]) -> io::Result<()> {
     }
     match read::<T>(page) {
         Ok(reader) => print_stage(rt, "written page", &look(rt.alloc(), &reader)?),
-        Err(fault) => {
-            let stopped = Stopped::NoPage(fault);
-            println!(rt; "{stopped}")
-        }
+        Err(fault) => println!(rt; "no page: fault {fault}"),
     }
 }
 

@@ -20,7 +20,8 @@ fn wanted<T: Tone>(tone: &T) -> [i32; 3]
 }
 
 // The ink for a place of the page; ink 0 where the place is missing.
-// Source and inks stay two arguments: a struct of the two would only be taken apart in each clause.
+// Source and inks stay two arguments, here and below: each function is called in one place, with just these, and a struct
+// would be no shorter.
 fn ink_for<T: Tone, S: Source<T>, I: InkSet<T>>(
     source: &S,
     inks: &I,

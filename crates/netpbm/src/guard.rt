@@ -4,7 +4,7 @@ ghost use Rattle.std.specs.Prelude.{◌≡◌, ℕ};
 use crate::fields::Fields;
 
 // Puts the reading place back where the field began, on each way out, unless the field is accepted.
-// It is written out where it is made: after a constructor the checker does not know which cursor it is over.
+// It is written out where it is made: a constructor was tried, after which the checker does not know the cursor.
 pub(crate) struct FieldGuard<'c, 'a> {
     pub(crate) fields: &'c mut Fields<'a>,
     pub(crate) start: usize,

@@ -31,6 +31,7 @@ fn tone_at<T: Tone>(bytes: &[u8], from: usize) -> T
     requires { from + T.Tone.count ≤ length bytes.now }
     ensures { result ≡ T.Tone.made (channels_of T.Tone.count (λ i. slice_index bytes.now (from + i))) }
 {
+    // written out, as in `Tone::values`
     T::build(array::from_fn(|i| {
         if i < T::channels() {
             bytes[from + i]

@@ -5,6 +5,7 @@ ghost use Rattle.std.proofs.Common.{rules};
 use crate::kinds::{Marked, Pair};
 use tone::Tone;
 
+// Each kind proves the laws for itself, by the same search; a macro may not write an impl.
 impl Tone for Pair {
     ghost count = { 2 };
 

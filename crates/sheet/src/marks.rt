@@ -17,6 +17,7 @@ pub fn mark<S: Sheet>(sheet: &mut S, row: usize, column: usize)
     ensures keeps { (S.Sheet.lent sheet.new ≡ S.Sheet.lent sheet.old)
         × (S.Sheet.besides sheet.new ≡ S.Sheet.besides sheet.old) }
 {
+    // what is refused is left as it is, which is meant here
     let _ = sheet.lay(row, column, 1);
     let _ = sheet.lay(column, row, 1);
 }

@@ -45,6 +45,7 @@ fn sample(width: u16, column: usize) -> u8
 fn uniform<T: Tone>(value: u8) -> T
     ensures { result ≡ T.Tone.made (channels_of T.Tone.count (λ i. value)) }
 {
+    // written out, as in `Tone::values`
     T::build(array::from_fn(|i| { if i < T::channels() { value } else { 0 } }))
 }
 

@@ -28,6 +28,7 @@ impl<S> Negative<S> {
 fn negative_of<T: Tone>(tone: T) -> T
     ensures { result ≡ negative_tone T.Tone.count T.Tone.value T.Tone.made tone }
 {
+    // written out, as in `Tone::values`
     T::build(array::from_fn(|i| {
         if i < T::channels() {
             255 - tone.channel(i)
