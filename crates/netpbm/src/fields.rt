@@ -1,6 +1,6 @@
 // The fields of a header. A field is white space, then a number of one to five digits; a field that
 // is refused leaves the reading place where it began.
-ghost use Rattle.std.specs.Prelude.{◌≡◌, ℕ, ◌+◌, ◌<◌, ◌≤◌, drop, length, true, MatchOption, MatchResult, OnErr};
+ghost use Rattle.std.specs.Prelude.{◌≡◌, ℕ, ◌+◌, ◌<◌, ◌≤◌, drop, length, take, true, MatchOption, MatchResult, OnErr};
 ghost use Rattle.std.specs.List.{prefix_len};
 ghost use Rattle.std.specs.Str.{all_ascii_digits};
 ghost use Rattle.netpbm.specs.Fields.{white, digit, after_white, decimal_value, Number, NoNumber, Field, NoField};
@@ -27,27 +27,36 @@ fn is_white(b: u8) -> bool
 // The number that one to five digits write.
 fn value_of(digits: &[u8]) -> u32
     requires digits { all_ascii_digits digits.now ≡ true }
-    requires some { 1 ≤ length digits.now }
     requires few { length digits.now ≤ 5 }
     ensures { result ≡ decimal_value digits.now }
 {
-    str::from_utf8(digits).unwrap().parse().unwrap()
+    let mut value = 0;
+    for digit in digits {
+        value = value * 10 + u32::from(*digit - b'0');
+    }
+    value
 }
 
 impl Fields<'_> {
+    // The bytes from the place on.
+    fn rest(&self) -> &[u8]
+        ensures { result.now ≡ drop self.now.place self.now.bytes.now }
+    {
+        &self.bytes[self.place.min(self.bytes.len())..]
+    }
+
     // How many white bytes stand from the place on.
     fn count_white(&self) -> usize
         ensures { result ≡ prefix_len white (drop self.now.place self.now.bytes.now) }
     {
-        let rest = self.bytes.iter().skip(self.place);
-        rest.take_while(|b| is_white(**b)).count()
+        self.rest().iter().take_while(|b| is_white(**b)).count()
     }
 
-    // How many digits stand from the place on.
+    // How many digits stand from the place on, of the first six bytes alone: a number has no more than five.
     fn count_digits(&self) -> usize
-        ensures { result ≡ prefix_len digit (drop self.now.place self.now.bytes.now) }
+        ensures { result ≡ prefix_len digit (take 6 (drop self.now.place self.now.bytes.now)) }
     {
-        let rest = self.bytes.iter().skip(self.place);
+        let rest = self.rest().iter().take(6);
         rest.take_while(|b| b.is_ascii_digit()).count()
     }
 
@@ -55,7 +64,7 @@ impl Fields<'_> {
     fn skip_white(&mut self) -> Option<()>
         ensures bytes { self.new.bytes.now ≡ self.old.bytes.now }
         ensures place { MatchOption result
-            (after_white self.old.bytes.now self.old.place ≡ self.old.place)
+            ((self.new.place ≡ self.old.place) × (after_white self.old.bytes.now self.old.place ≡ self.old.place))
             (λ _. (self.new.place ≡ after_white self.old.bytes.now self.old.place) × (self.old.place < self.new.place)) }
     {
         let white @ 1.. = self.count_white() else {
@@ -69,7 +78,7 @@ impl Fields<'_> {
     fn number(&mut self) -> Option<u32>
         ensures bytes { self.new.bytes.now ≡ self.old.bytes.now }
         ensures value { MatchOption result
-            (NoNumber self.old.bytes.now self.old.place)
+            ((self.new.place ≡ self.old.place) × NoNumber self.old.bytes.now self.old.place)
             (λ v. Number self.old.bytes.now self.old.place v self.new.place) }
     {
         let digits @ 1..=5 = self.count_digits() else {

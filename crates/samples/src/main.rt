@@ -8,6 +8,7 @@ mod text;
 use open::{AnyPage, open_page};
 use source::Source;
 use std::fs;
+use std::io::Write;
 use text::page_text;
 use tone::Tone;
 
@@ -34,7 +35,8 @@ fn show<T: Tone, S: Source<T>>(rt: &HostRuntime, kind: &str, page: &S) -> anyhow
     let height = page.height();
     println!(rt; "{kind}, {width} by {height}")?;
     let text = page_text::<T, S>(rt.alloc(), page)?;
-    print!(rt; "{text}")?;
+    // one write: by `print!` the text would go out in pieces of a kibibyte
+    rt.stdout().write_all(text.as_bytes())?;
     Ok(())
 }
 

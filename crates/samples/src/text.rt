@@ -2,12 +2,24 @@
 // for each channel, or two hyphens for each channel where the place is missing.
 ghost use Rattle.std.specs.Prelude.{◌≡◌, ℕ, ◌<◌, ◌++◌, IfOk, OnOk, string_bytes};
 ghost use Rattle.source.specs.Faults.{said};
-ghost use Rattle.samples.specs.Texts.{sample_text, place_text, row_text, text_of};
+ghost use Rattle.samples.specs.Texts.{hex_digit, sample_text, place_text, row_text, text_of};
 
 use source::{Fault, Source};
 use std::alloc::{AllocError, Global};
-use std::fmt::Write;
 use tone::Tone;
+
+// A hexadecimal digit.
+fn digit(value: u8) -> char
+    requires { value < 16 }
+    ensures here { result ≡ hex_digit value }
+    ensures ascii { result < 128 }
+{
+    char::from(if value < 10 {
+        b'0' + value
+    } else {
+        b'a' + (value - 10)
+    })
+}
 
 // Appends the text of one channel of a source's answer.
 fn push_sample<T: Tone>(
@@ -17,9 +29,13 @@ fn push_sample<T: Tone>(
 ) -> Result<(), AllocError>
     ensures { OnOk result (string_bytes text.new ≡ string_bytes text.old ++ sample_text T.Tone.count T.Tone.value (said answer.now) channel) }
 {
-    // a match, since both answers write text
+    // a match, since both answers write text; two digits, since `{:02x}` takes four times as long
     match answer {
-        Ok(tone) => write!(text, "{:02x}", tone.channel(channel)),
+        Ok(tone) => {
+            let sample = tone.channel(channel);
+            text.push(digit(sample / 16))?;
+            text.push(digit(sample % 16))
+        }
         Err(_) => text.push_str("--"),
     }
 }

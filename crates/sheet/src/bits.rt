@@ -4,9 +4,13 @@ ghost use Rattle.std.specs.Prelude.{◌≡◌};
 ghost use Rattle.sheet.specs.BitFacts.{bit_laws};
 ghost use Rattle.sheet.specs.Memory.{bit_packing, stride};
 
+use crate::lent::LentSheet;
 use crate::packings::Packing;
 
 pub struct Bits;
+
+// One bit for each place, in rows as PBM has them.
+pub type BitSheet<'a> = LentSheet<'a, Bits>;
 
 // The bytes of a row of packed bits.
 pub fn row_bytes(width: u16) -> usize
@@ -37,7 +41,8 @@ impl Packing for Bits {
     }
 
     fn with_ink(byte: u8, column: usize, number: u8) -> u8 {
-        let mask = 1u8 << (7 - column % 8);
+        // not `1 << (7 - column % 8)`, whose complement is made by a rotation, which is slower
+        let mask = 128u8 >> (column % 8);
         if number == 0 {
             byte | mask
         } else {

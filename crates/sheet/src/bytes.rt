@@ -2,9 +2,13 @@
 ghost use Rattle.std.proofs.Common.{rules};
 ghost use Rattle.sheet.specs.Memory.{byte_packing};
 
+use crate::lent::LentSheet;
 use crate::packings::Packing;
 
 pub struct Bytes;
+
+// One byte for each place: cell (r, c) is byte r * width + c.
+pub type ByteSheet<'a> = LentSheet<'a, Bytes>;
 
 impl Packing for Bytes {
     ghost meaning = { byte_packing };

@@ -17,19 +17,13 @@ pub const MAX_WIDTH: u16 = 1024;
 
 pub const MAX_HEIGHT: u16 = 8192;
 
-pub use bits::{Bits, row_bytes};
-pub use bytes::Bytes;
+pub use bits::{BitSheet, Bits, row_bytes};
+pub use bytes::{ByteSheet, Bytes};
 pub use fault::SheetFault;
 pub use lent::LentSheet;
 pub use marks::{mark, mark_lent};
 pub use packings::Packing;
 pub use sheets::Sheet;
-
-// one byte for each place: cell (r, c) is byte r * width + c
-pub type ByteSheet<'a> = LentSheet<'a, Bytes>;
-
-// one bit for each place, in rows as PBM has them
-pub type BitSheet<'a> = LentSheet<'a, Bits>;
 
 #[cfg(test)]
 mod tests;

@@ -2,7 +2,10 @@
 ghost use Rattle.std.specs.Prelude.{◌≡◌};
 ghost use Rattle.source.specs.Layers.{above};
 
-// The number of the layer over the layer `below`. The numbers stop at 65,535: every layer above has this one too.
+// Where the numbers stop: every layer above has this one too.
+pub const TOP_LAYER: u16 = u16::MAX;
+
+// The number of the layer over the layer `below`.
 pub fn layer_above(below: u16) -> u16
     ensures { result ≡ above below }
 {

@@ -1,12 +1,14 @@
-use Rattle.std.proofs.Common.{rules}
-use Rattle.netpbm.proofs.Digits.{digits_text, digits_read}
+use Rattle.std.proofs.Common.{arith, rules}
+use Rattle.netpbm.proofs.Digits.{digit_at, value_more, pow_more}
 use Rattle.netpbm.proofs.fields.value_of.Goals as goal
 
-pub unwrap-requires : goal.unwrap-requires
-unwrap-requires c = search (rules, digits_text)
+pub overflow_sub-digit : goal.overflow_sub-digit
+overflow_sub-digit c = search (rules, digit_at)
 
-pub unwrap-requires-2 : goal.unwrap-requires-2
-unwrap-requires-2 c = search (rules, digits_read c.unwrap.result.now c.args.digits.now c.parse.result c.parse.ensures.value.0)
-
-pub returns : goal.returns
-returns c = search (rules, digits_read)
+pub loop-digit-preserved : goal.loop-digit-preserved
+loop-digit-preserved c =
+    let i = c.loop-digit.digit-index in
+    let ds = c.args.digits.now in (
+      omega (arith, value_more ds i c.loop-digit-test.true, c.from.ensures, c.loop-digit.invariant.0),
+      omega (arith, pow_more i, digit_at ds i c.requires.digits c.loop-digit-test.true, c.from.ensures, c.loop-digit.invariant.1),
+    )

@@ -5,7 +5,7 @@ use Rattle.ink.specs.LevelFacts.{choice_below}
 use Rattle.ink.specs.LevelRules.{gap_of, ink_of, level, levels_choice}
 use Rattle.ink.specs.Values.{values}
 use Rattle.ink.proofs.LevelNearest.{levels_nearest}
-use Rattle.ink.proofs.LevelLoops.{so_far}
+use Rattle.ink.proofs.LevelLoops.{below_take, so_far}
 use Rattle.ink.proofs.Limited.{level_at}
 use Rattle.ink.proofs.levels.calls.LevelsInkSet.choose.Goals as goal
 
@@ -13,7 +13,7 @@ pub overflow_mul-ink : goal.overflow_mul-ink
 overflow_mul-ink g c =
     let s = c.args.self.now in
     let u = values g.T.Tone.count c.args.wanted in
-    let within : c.loop-value.value-index < g.T.Tone.count = omega (arith, length-take c.channels.result c.args.wanted, c.channels.ensures) in
+    let within : c.loop-value.value-index < g.T.Tone.count = omega (arith, below_take c.channels.result c.loop-value.value-index _ c.loop-value-test.true, c.channels.ensures) in
     omega (
       arith,
       ap (λ x. x * s.steps) c.loop-value.invariant,
@@ -30,8 +30,9 @@ next g c =
     let count = g.T.Tone.count in
     let i = c.loop-value.value-index in
     let at : ℕ → ℕ = λ i. level (gap_of n) (get_or (values count u) i (pos 0)) in
-    let within : i < count = omega (arith, length-take c.channels.result u, c.channels.ensures) in
-    let three : i < length u = omega (arith, length-take c.channels.result u) in
+    let within : i < count = omega (arith, below_take c.channels.result i _ c.loop-value-test.true, c.channels.ensures) in
+    let long : length u ≡ 3 = search rules in
+    let three : i < length u = omega (arith, long, within, g.met.T.Tone.few) in
     let f : SFits w32 (get_or (take c.channels.result u) i (pos 0)) = search rules in
     let r : c.nearest_level.result ≡ level s.gap (get_or (take c.channels.result u) i (pos 0)) = simp to_z-of_z at c.nearest_level.ensures in
     let here : c.nearest_level.result ≡ at i =
@@ -43,7 +44,7 @@ pub overflow_add-ink : goal.overflow_add-ink
 overflow_add-ink g c =
     let s = c.args.self.now in
     let u = values g.T.Tone.count c.args.wanted in
-    let within : c.loop-value.value-index < g.T.Tone.count = omega (arith, length-take c.channels.result c.args.wanted, c.channels.ensures) in
+    let within : c.loop-value.value-index < g.T.Tone.count = omega (arith, below_take c.channels.result c.loop-value.value-index _ c.loop-value-test.true, c.channels.ensures) in
     omega (
       arith,
       next g c,
