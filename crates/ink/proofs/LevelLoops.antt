@@ -1,15 +1,11 @@
 -- The steps of the loops over the channels of an ink.
-use Rattle.std.proofs.Common.{◌≡◌, ℕ, zero, suc, ◌-◌, ◌*◌, ◌/◌, ◌%◌, ◌^◌, ◌<◌, ◌≤◌, List, length, get_or, set, take, sym, ap, ◌∙◌, ⊎_elim, arith}
+use Rattle.std.proofs.Common.{◌≡◌, ℕ, zero, suc, ◌-◌, ◌*◌, ◌/◌, ◌%◌, ◌^◌, ◌<◌, ◌≤◌, List, length, get_or, set, sym, ap, ◌∙◌, ⊎_elim, arith}
 use Rattle.std.proofs.Math.Nat.{div-div-eq-div-mul, mod-eq-sub-div-mul, pow-le-pow_right, pow-suc}
 use Rattle.std.proofs.lemmas.Bool.{cases_eq, cond_both, ltb-false, ltb-true}
-use Rattle.std.proofs.lemmas.List.{ext_get_or, get_or-set_other, get_or-set_same, length-set, length-take}
+use Rattle.std.proofs.lemmas.List.{ext_get_or, get_or-set_other, get_or-set_same, length-set}
 use Rattle.ink.specs.LevelFacts.{Steps, even, ink_below}
 use Rattle.ink.proofs.LevelNearest.{level_in_below, tone_below}
 use Rattle.ink.specs.LevelRules.{gap_of, ink_of, level_in, level_values}
-
--- a place of the first n is below n
-pub below_take : {A : Type 0} (n i : ℕ) (xs : List A) → i < length (take n xs) → i < n
-below_take n i xs p = omega (arith, length-take n xs, p)
 
 -- the number so far is small
 pub so_far : {count n : ℕ} → Steps count n → (at : ℕ → ℕ) → ((i : ℕ) → at i < n) → (i : ℕ) → i < count → ink_of n at (suc i) < 256

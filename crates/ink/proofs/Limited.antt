@@ -1,5 +1,5 @@
 -- Limited values.
-use Rattle.std.proofs.Common.{◌≡◌, ℕ, ◌+◌, ◌/◌, ◌<◌, List, map, length, get_or, take, ℤ, pos, negsuc, ◌≤ℤ◌, sym, ap, ◌∙◌, arith}
+use Rattle.std.proofs.Common.{◌≡◌, ℕ, suc, ◌+◌, ◌/◌, ◌<◌, List, map, length, get_or, take, ℤ, pos, negsuc, ◌≤ℤ◌, sym, ap, ◌∙◌, arith}
 use Rattle.std.proofs.lemmas.List.{get_or-map, get_or-take, length-take}
 use Rattle.std.proofs.lemmas.Int.{ints}
 use Rattle.ink.specs.LevelRules.{cut_to_byte, level}
@@ -35,3 +35,8 @@ all_limited ws l i p =
 pub same_values : (count : ℕ) (ws : List ℤ) (i : ℕ) → i < count → i < length ws
     → get_or (map limited ws) i (pos 0) ≡ get_or (values count ws) i (pos 0)
 same_values count ws i p q = get_or-map limited ws i (pos 0) (pos 0) q ∙ sym (values_at count ws i p q)
+
+pub level_mapped : (gap : ℕ) (ws : List ℤ) (i : ℕ) → i < length ws
+    → level gap (get_or ws i (pos 0)) ≡ level gap (get_or (map limited ws) i (pos 0))
+level_mapped gap ws i q =
+    level_at (suc i) gap ws i (omega arith) q ∙ sym (ap (λ v. level gap v) (same_values (suc i) ws i (omega arith) q))

@@ -1,10 +1,10 @@
 // The calls of a set of levels. The levels of an ink are the digits of its number, so that of three channels ink
 // (r * n + g) * n + b has the levels r, g and b.
-ghost use Rattle.std.specs.Prelude.{◌≡◌, ◌<◌, ◌^◌, refl};
-ghost use Rattle.ink.specs.LevelRules.{level_values};
+ghost use Rattle.std.specs.Prelude.{◌≡◌, ◌<◌, ◌^◌, length, map, refl};
+ghost use Rattle.ink.specs.LevelRules.{level_values, levels_choice};
 ghost use Rattle.ink.specs.Levels.{levels};
 ghost use Rattle.ink.specs.Nearness.{Nearest};
-ghost use Rattle.ink.specs.Values.{values};
+ghost use Rattle.ink.specs.Values.{limited, values};
 
 use crate::levels::{Levelled, Levels};
 use crate::sets::InkSet;
@@ -27,6 +27,18 @@ impl<T: Levelled> Levels<T> {
         values[0] = (high * self.gap) as u8;
         values
     }
+
+    // The ink that has the nearest level to each value, of which there is one for each channel.
+    fn nearest_levels(&self, wanted: &[i32]) -> u16
+        requires { length wanted.now ≡ T.Tone.count }
+        ensures { result ≡ levels_choice self.now.steps T.Tone.count (map limited wanted.now) }
+    {
+        let mut ink = 0;
+        for value in wanted {
+            ink = ink * self.steps + nearest_level(*value, self.gap);
+        }
+        ink
+    }
 }
 
 impl<T: Levelled> InkSet<T> for Levels<T> {
@@ -41,18 +53,15 @@ impl<T: Levelled> InkSet<T> for Levels<T> {
 
     fn tone(&self, number: u16) -> T {
         let ink = if number < self.count() { number } else { 0 };
-        T::build(self.channel_values(ink))
+        let values = self.channel_values(ink);
+        T::build(values)
     }
 
     fn choose(&self, wanted: [i32; 3]) -> u16
         ensures answer { result ≡ (levels self.now.sound self.now.steps self.now.even).choice (values T.Tone.count wanted) }
         ensures nearest { Nearest (levels self.now.sound self.now.steps self.now.even) (values T.Tone.count wanted) result }
     {
-        let mut ink = 0;
-        for value in &wanted[..T::channels()] {
-            ink = ink * self.steps + nearest_level(*value, self.gap);
-        }
-        ink
+        self.nearest_levels(&wanted[..T::channels()])
     }
 
     fn spread(&self) -> Option<u8> {
