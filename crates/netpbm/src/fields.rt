@@ -21,7 +21,8 @@ pub(crate) struct Fields<'a> {
 fn is_white(b: u8) -> bool
     ensures { result ≡ white b }
 {
-    matches!(b, b' ' | b'\t' | b'\r' | b'\n')
+    // not `matches!`, which takes twice as long over a run of LF
+    b == b' ' || b == b'\t' || b == b'\r' || b == b'\n'
 }
 
 // The number that one to five digits write.
