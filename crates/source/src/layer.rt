@@ -9,5 +9,5 @@ pub const TOP_LAYER: u16 = u16::MAX;
 pub fn layer_above(below: u16) -> u16
     ensures { result ≡ above below }
 {
-    below.saturating_add(1)
+    below.checked_add(1).unwrap_or(TOP_LAYER)
 }

@@ -1,7 +1,9 @@
-use Rattle.std.proofs.Common.{length, take, ap, ◌∙◌}
-use Rattle.std.proofs.Math.Nat.{min_comm}
+use Rattle.std.proofs.Common.{◌≡◌, length, take, ap, ◌∙◌, arith}
+use Rattle.std.specs.Prelude.{min}
 use Rattle.std.proofs.lemmas.List.{take_min}
 use Rattle.ink.proofs.list.InkList.new.Goals as goal
 
 pub returns : goal.returns
-returns g c = ap (λ n. take n c.args.inks.now) (c.min.ensures ∙ min_comm (length c.args.inks.now) 256) ∙ take_min 256 c.args.inks.now
+returns g c =
+    let shown : c.min.result ≡ min 256 (length c.args.inks.now) = omega (arith, c.min.ensures) in
+    ap (λ n. take n c.args.inks.now) shown ∙ take_min 256 c.args.inks.now

@@ -37,16 +37,18 @@ pub returns-then-number-eq0 : goal.returns-then-number-eq0
 returns-then-number-eq0 c = λ w f r l e.
     let b = c.args.byte in
     let k = 7 - c.args.column % 8 in
+    let black : c.args.number ≡ 0 = omega (arith, c.if-number-eq0.true) in
     rw (mask_is (c.args.column % 8) (omega arith))
     (relaid w r c.args.column c.args.number b _ f l e (or_of_8 b (1 * 2 ^ k % 256) (omega arith) (omega arith))
-    (rw c.if-number-eq0.true (bit_at_set_same w8 b k (omega arith)))
+    (rw black (bit_at_set_same w8 b k (omega arith)))
     (λ i m other. bit_at_set_other w8 b k (omega arith) (7 - i) (λ x. other (omega arith))))
 
 pub returns-else-number-eq0 : goal.returns-else-number-eq0
 returns-else-number-eq0 c = λ w f r l e.
     let b = c.args.byte in
     let k = 7 - c.args.column % 8 in
+    let white : c.args.number ≢ 0 = λ zero. c.if-number-eq0.false (omega (arith, zero)) in
     rw (mask_is (c.args.column % 8) (omega arith))
     (relaid w r c.args.column c.args.number b _ f l e (omega (arith, and_le_l b (255 - 1 * 2 ^ k % 256)))
-    (rw (ne_eqb c.args.number 0 c.if-number-eq0.false) (bit_at_clear_same w8 b k (omega arith)))
+    (rw (ne_eqb c.args.number 0 white) (bit_at_clear_same w8 b k (omega arith)))
     (λ i m other. bit_at_clear_other w8 b k (omega arith) (7 - i) (omega arith) (λ x. other (omega arith))))
