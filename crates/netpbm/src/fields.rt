@@ -21,7 +21,7 @@ pub(crate) struct Fields<'a> {
 fn is_white(b: u8) -> bool
     ensures { result ≡ white b }
 {
-    // not `matches!`, which takes twice as long over a run of LF, and several times as long over all four mixed
+    // not `matches!`, which takes several times as long where the four are mixed
     b == b' ' || b == b'\t' || b == b'\r' || b == b'\n'
 }
 
